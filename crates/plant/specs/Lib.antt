@@ -1,1 +1,4 @@
 pub mod Meaning
+pub mod RefusalList
+pub mod EntryTable
+pub mod ByteTable

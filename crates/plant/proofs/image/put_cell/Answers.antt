@@ -1,0 +1,41 @@
+use borrow.Author.Needs.{needs}
+use native.Mathlib.Omega.{arith}
+use mathlib.Core.Path.{sym, _≡_, ap, _∙_}
+use mathlib.Core.List.{List}
+use lib.ListN.{getD}
+use mir.Syntax.{w16}
+use mir.Val.{SFits}
+use Rattle.std.proofs.shelf.Tests.{and-parts}
+use Rattle.std.proofs.shelf.Signed.{toZ-ofZ}
+use mathlib.Core.Bool.{true, false}
+use Prim.Native.Nat.{ℕ, _≤_, _<_, _/_, _%_}
+use Rattle.plant.specs.ByteTable.{image-count, image-meaning, word-at, cell-place, bits-16}
+use Rattle.plant.specs.Meaning.{within}
+use Rattle.plant.proofs.Cells.{put-none, put-outside, put-done, bytes-of, bits-back, bits-fit}
+use Rattle.plant.proofs.image.put_cell.Needs as need
+
+pub returns-then-element-cell-count : need.returns-then-element-cell-count
+returns-then-element-cell-count c =
+    let none : image-count (c .args .bytes .now) ≤ c .args .element .0 = omega (arith, c .cell-count .ensures .value) in
+    let is = put-none (c .args .bytes .now) (c .args .element .0) (c .args .number) none in
+    record { value = sym (is .0); after = sym (is .1) }
+
+pub returns-then-number-ltminus32768 : need.returns-then-number-ltminus32768
+returns-then-number-ltminus32768 c =
+    let there : c .args .element .0 < image-count (c .args .bytes .now) = omega (arith, c .cell-count .ensures .value) in
+    let outside : within (image-meaning (c .args .bytes .now)) (c .args .number) ≡ false = search needs in
+    let is = put-outside (c .args .bytes .now) (c .args .element .0) (c .args .number) there outside in
+    record { value = sym (is .0); after = sym (is .1) }
+
+pub returns : need.returns
+returns c =
+    let there : c .args .element .0 < image-count (c .args .bytes .now) = omega (arith, c .cell-count .ensures .value) in
+    let inside : within (image-meaning (c .args .bytes .now)) (c .args .number) ≡ true = search needs in
+    let parts = and-parts _ _ inside in
+    let cell = bytes-of (c .args .number) (bits-back (c .args .number) (parts .0) (parts .1) .0) in
+    let is = put-done (c .args .bytes .now) (c .args .element .0) (c .args .number) there inside in
+    let wide = c .fits .number in
+    let narrow : SFits w16 (c .args .number) = bits-fit (c .args .number) (parts .0) (parts .1) in
+    let high : getD (c .to-be-bytes-cell .result) 0 0 ≡ bits-16 (c .args .number) / 256 = ap (λ (l : List ℕ). getD l 0 0) (c .to-be-bytes-cell .ensures) ∙ simp toZ-ofZ (cell .0) in
+    let low : getD (c .to-be-bytes-cell .result) 1 0 ≡ bits-16 (c .args .number) % 256 = ap (λ (l : List ℕ). getD l 1 0) (c .to-be-bytes-cell .ensures) ∙ simp toZ-ofZ (cell .1) in
+    record { value = sym (is .0); after = cc }
