@@ -20,7 +20,8 @@ pub struct Image<'a> {
 
 impl<'a> Image<'a> {
     pub fn open(bytes: &'a mut [u8]) -> Image<'a>
-        ensures { λ r. ⌜ now (r .bytes) ≡ now (bytes .entry) ⌝ }
+        ensures bytes { λ r. ⌜ now (r .bytes) ≡ now (bytes .entry) ⌝ }
+        ensures lender { λ r. ⌜ name (r .bytes) ≡ name (bytes .entry) ⌝ }
     {
         Image { bytes }
     }

@@ -5,7 +5,9 @@ mod refusals;
 mod tables;
 
 pub use image::Image;
+pub use image::ImageTable;
 pub use number_list::NumberList;
+pub use number_list::NumberListTable;
 pub use refusals::Refusal;
 pub use refusals::RefusalDebug;
 pub use refusals::RefusalEq;

@@ -20,7 +20,8 @@ pub struct NumberList<'a> {
 
 impl<'a> NumberList<'a> {
     pub fn new(entries: &'a mut [i32]) -> NumberList<'a>
-        ensures { λ r. ⌜ now (r .entries) ≡ now (entries .entry) ⌝ }
+        ensures entries { λ r. ⌜ now (r .entries) ≡ now (entries .entry) ⌝ }
+        ensures lender { λ r. ⌜ name (r .entries) ≡ name (entries .entry) ⌝ }
     {
         NumberList { entries }
     }

@@ -1,0 +1,2 @@
+pub mod Corrected
+pub mod Spoken

@@ -1,0 +1,1 @@
+// Examples of tables, each proved safe and then run.
