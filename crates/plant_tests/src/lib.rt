@@ -1,1 +1,5 @@
-// Examples of tables, each proved safe and then run.
+// Examples of tables at their edges, each proved safe and then run.
+#[cfg(test)]
+mod images;
+#[cfg(test)]
+mod lists;

@@ -56,7 +56,7 @@ fn usage(rt: &LibcRuntime, asked: bool) -> io::Result<Outcome> {
         println!(rt, "{text}")?;
         return Ok(Outcome::Done);
     }
-    eprintln!(rt, "plantimage: these arguments say neither show nor set\n{text}")?;
+    eprintln!(rt, "plantimage: these arguments are not understood\n{text}")?;
     Ok(Outcome::Failed)
 }
 
@@ -65,4 +65,73 @@ fn refused(rt: &LibcRuntime, file: &str, refusal: Refusal) -> io::Result<Outcome
     let words = refusal.words();
     eprintln!(rt, "plantimage: {file}: refused ({number}): {words}")?;
     Ok(Outcome::Failed)
+}
+
+fn failed(rt: &LibcRuntime, what: &str, file: &str, error: io::Error) -> io::Result<Outcome> {
+    eprintln!(rt, "plantimage: cannot {what} {file}: {error}")?;
+    Ok(Outcome::Failed)
+}
+
+fn show(rt: &LibcRuntime, file: &str) -> io::Result<Outcome> {
+    let mut bytes = match fs::read(rt, file) {
+        Ok(bytes) => bytes,
+        Err(error) => return failed(rt, "read", file, error),
+    };
+    match Image::check(bytes.as_slice()) {
+        Ok(_) => list(rt, &Image::open(bytes.as_mut_slice())),
+        Err(refusal) => refused(rt, file, refusal),
+    }
+}
+
+fn list(rt: &LibcRuntime, image: &Image) -> io::Result<Outcome> {
+    let count = image.count();
+    let lowest = image.lowest();
+    let highest = image.highest();
+    println!(rt, "count {count}, lowest {lowest}, highest {highest}")?;
+    for number in 0..count {
+        let element = Element(number);
+        if let Ok(value) = image.get(element) {
+            rt.println(line(rt.alloc(), element, value)?)?;
+        }
+    }
+    Ok(Outcome::Done)
+}
+
+fn set(rt: &LibcRuntime, file: &str, element: &str, number: &str) -> io::Result<Outcome> {
+    let Some(element) = read_element(element) else {
+        eprintln!(rt, "plantimage: '{element}' is no element number: write 0 to 65535")?;
+        return Ok(Outcome::Failed);
+    };
+    let Some(number) = read_number(number) else {
+        eprintln!(rt, "plantimage: '{number}' is no whole number within 64 bits")?;
+        return Ok(Outcome::Failed);
+    };
+    let mut bytes = match fs::read(rt, file) {
+        Ok(bytes) => bytes,
+        Err(error) => return failed(rt, "read", file, error),
+    };
+    match correct(bytes.as_mut_slice(), element, number) {
+        Ok(done) => save(rt, file, bytes.as_slice(), done),
+        Err(refusal) => refused(rt, file, refusal),
+    }
+}
+
+fn save(rt: &LibcRuntime, file: &str, bytes: &[u8], done: Correction) -> io::Result<Outcome> {
+    match replace(rt, file, bytes) {
+        Ok(()) => {
+            println!(rt, "{done}")?;
+            Ok(Outcome::Done)
+        }
+        Err(error) => failed(rt, "write", file, error),
+    }
+}
+
+// The new bytes are complete and on the disk before they take the old file's name.
+fn replace(rt: &LibcRuntime, file: &str, bytes: &[u8]) -> io::Result<()> {
+    let beside = format!(rt.alloc(), "{file}.new")?;
+    let mut out = File::create(rt, beside.as_str())?;
+    out.write_all(bytes)?;
+    out.sync_all()?;
+    drop(out);
+    fs::rename(rt, beside.as_str(), file)
 }
