@@ -24,13 +24,14 @@ pub refused-image : (bs : List ℕ) (e : Element) (v : ℤ) (r : Refusal) → Er
 refused-image bs e v r h =
     let no = refused-at (is-image bs) (stated-count bs) r h in
     let none : image-count bs ≡ 0 = cond-false (is-image bs) (stated-count bs) 0 (no .0) in
-    let all : image-count bs ≤ e .0 = omega arith in
-    ( ap (λ (x : Refusal). Err x) (no .1) ∙ sym (cond-false (is-image bs) (change-answer bs e v) (Err BadImage) (no .0))
-    , sym (put-none bs (e .0) v all .1) )
+    let all : image-count bs ≤ e .0 = omega arith in (
+      ap (λ (x : Refusal). Err x) (no .1) ∙ sym (cond-false (is-image bs) (change-answer bs e v) (Err BadImage) (no .0)),
+      sym (put-none bs (e .0) v all .1),
+    )
 
 -- Two chains of the same tests refuse alike.
 pub refused-alike : {X Y : Type 0} (a b : Bool) (x : X) (y : Y) (p q r : Refusal)
-  → _≡_ {A = Result X Refusal} (Err r) (cond a (cond b (Ok x) (Err p)) (Err q)) → _≡_ {A = Result Y Refusal} (Err r) (cond a (cond b (Ok y) (Err p)) (Err q))
+    → _≡_ {A = Result X Refusal} (Err r) (cond a (cond b (Ok x) (Err p)) (Err q)) → _≡_ {A = Result Y Refusal} (Err r) (cond a (cond b (Ok y) (Err p)) (Err q))
 refused-alike true true x y p q r h = let z : _≡_ {A = ℕ} 0 1 = cc in absurd (omega arith)
 refused-alike true false x y p q r h = cc
 refused-alike false b x y p q r h = cc

@@ -38,7 +38,11 @@ fn change(image: &mut Image, element: Element, number: i64) -> Result<Correction
 {
     let before = image.get(element)?;
     match image.put(element, number) {
-        Ok(()) => Ok(Correction { element, before, after: number }),
+        Ok(()) => Ok(Correction {
+            element,
+            before,
+            after: number,
+        }),
         Err(refusal) => Err(refusal),
     }
 }

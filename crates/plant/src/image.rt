@@ -1,10 +1,12 @@
 // A table on the caller's bytes: two for the count, then two for each element, the higher byte first.
 ghost use mathlib.Core.Path.{_≡_};
-ghost use Prim.Native.Nat.{_≤_};
+ghost use Prim.Native.Nat.{_+_, _/_, _%_, _<_, _≤_};
 ghost use denote.Ref.{now, name};
 ghost use lib.IntN.{pos, negsuc};
 ghost use lib.Signed.{_≤ℤ_};
-ghost use lib.ListN.{length};
+ghost use lib.ListN.{length, set};
+ghost use mir.Syntax.{w16};
+ghost use mir.Val.{ofZ};
 ghost use Rattle.plant.specs.ByteTable.{image-check, image-count, cell-number, image-meaning, bytes-after-put};
 ghost use Rattle.plant.specs.Meaning.{get-answer, put-answer, put-meaning};
 ghost use Rattle.std.specs.Vec.{made};
@@ -63,6 +65,15 @@ fn get_cell(bytes: &[u8], element: Element) -> Result<i64, Refusal>
     Ok(i64::from(i16::from_be_bytes([bytes[place], bytes[place + 1]])))
 }
 
+fn write_cell(bytes: &mut [u8], place: usize, number: i16)
+    requires { ⌜ place + 1 < length (now bytes) ⌝ }
+    ensures { λ _. ⌜ now (bytes .exit) ≡ set (set (now (bytes .entry)) place (ofZ w16 number / 256 % 256)) (place + 1) (ofZ w16 number % 256) ⌝ }
+{
+    let cell = number.to_be_bytes();
+    bytes[place] = cell[0];
+    bytes[place + 1] = cell[1];
+}
+
 fn put_cell(bytes: &mut [u8], element: Element, number: i64) -> Result<(), Refusal>
     ensures value { λ r. ⌜ r ≡ put-answer (image-meaning (now (bytes .entry))) (element .0) number ⌝ }
     ensures after { λ _. ⌜ now (bytes .exit) ≡ bytes-after-put (now (bytes .entry)) (element .0) number ⌝ }
@@ -73,10 +84,7 @@ fn put_cell(bytes: &mut [u8], element: Element, number: i64) -> Result<(), Refus
     if number < -32_768 || number > 32_767 {
         return Err(Refusal::NumberOutsideLimits);
     }
-    let place = 2 + 2 * element.0 as usize;
-    let cell = (number as i16).to_be_bytes();
-    bytes[place] = cell[0];
-    bytes[place + 1] = cell[1];
+    write_cell(bytes, 2 + 2 * element.0 as usize, number as i16);
     Ok(())
 }
 
@@ -96,7 +104,7 @@ pub impl<'a> Table for Image<'a> as ImageTable {
         ensures bound { λ r. ⌜ negsuc 999_999_999_999 ≤ℤ r ⌝ }
         ensures limit { λ r. ⌜ r ≡ negsuc 32_767 ⌝ }
     {
-        -32_768
+        i64::from(i16::MIN)
     }
 
     fn highest(&self) -> i64
@@ -104,7 +112,7 @@ pub impl<'a> Table for Image<'a> as ImageTable {
         ensures bound { λ r. ⌜ image-meaning (now (now (self .entry) .bytes)) .lowest ≤ℤ r ⌝ ∗ ⌜ r ≤ℤ pos 1_000_000_000_000 ⌝ }
         ensures limit { λ r. ⌜ r ≡ pos 32_767 ⌝ }
     {
-        32_767
+        i64::from(i16::MAX)
     }
 
     fn get(&self, element: Element) -> Result<i64, Refusal>

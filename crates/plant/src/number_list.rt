@@ -32,11 +32,10 @@ fn entry_count(entries: &[i32]) -> u16
     ensures bound { λ r. ⌜ r ≤ 256 ⌝ }
     ensures entries { λ r. ⌜ r ≡ min 256 (length (now (entries .entry))) ⌝ }
 {
-    if entries.len() < 256 {
-        entries.len() as u16
-    } else {
-        256
+    if entries.len() >= 256 {
+        return 256;
     }
+    entries.len() as u16
 }
 
 fn get_entry(entries: &[i32], element: Element) -> Result<i64, Refusal>
@@ -81,7 +80,7 @@ pub impl<'a> Table for NumberList<'a> as NumberListTable {
         ensures bound { λ r. ⌜ negsuc 999_999_999_999 ≤ℤ r ⌝ }
         ensures limit { λ r. ⌜ r ≡ negsuc 2_147_483_647 ⌝ }
     {
-        -2_147_483_648
+        i64::from(i32::MIN)
     }
 
     fn highest(&self) -> i64
@@ -89,7 +88,7 @@ pub impl<'a> Table for NumberList<'a> as NumberListTable {
         ensures bound { λ r. ⌜ list-meaning (now (now (self .entry) .entries)) .lowest ≤ℤ r ⌝ ∗ ⌜ r ≤ℤ pos 1_000_000_000_000 ⌝ }
         ensures limit { λ r. ⌜ r ≡ pos 2_147_483_647 ⌝ }
     {
-        2_147_483_647
+        i64::from(i32::MAX)
     }
 
     fn get(&self, element: Element) -> Result<i64, Refusal>

@@ -68,8 +68,14 @@ fn cells_hold_sixteen_signed_bits() -> Result<(), Fail> {
         check_eq(image.get(Element(0)), Ok(-32_768))?;
         check_eq(image.get(Element(1)), Ok(32_767))?;
         check_eq(image.get(Element(2)), Ok(480))?;
-        check_eq(image.put(Element(0), 32_768), Err(Refusal::NumberOutsideLimits))?;
-        check_eq(image.put(Element(0), -32_769), Err(Refusal::NumberOutsideLimits))?;
+        check_eq(
+            image.put(Element(0), 32_768),
+            Err(Refusal::NumberOutsideLimits),
+        )?;
+        check_eq(
+            image.put(Element(0), -32_769),
+            Err(Refusal::NumberOutsideLimits),
+        )?;
         check_eq(image.put(Element(0), 32_767), Ok(()))?;
         check_eq(image.put(Element(1), -32_768), Ok(()))?;
     }

@@ -28,9 +28,18 @@ fn entries_hold_32_signed_bits() -> Result<(), Fail> {
         let mut list = NumberList::new(&mut entries);
         check_eq(list.put(Element(0), list.lowest()), Ok(()))?;
         check_eq(list.put(Element(1), list.highest()), Ok(()))?;
-        check_eq(list.put(Element(0), -2_147_483_649), Err(Refusal::NumberOutsideLimits))?;
-        check_eq(list.put(Element(1), 2_147_483_648), Err(Refusal::NumberOutsideLimits))?;
-        check_eq(list.put(Element(2), 2_147_483_648), Err(Refusal::NoSuchElement))?;
+        check_eq(
+            list.put(Element(0), -2_147_483_649),
+            Err(Refusal::NumberOutsideLimits),
+        )?;
+        check_eq(
+            list.put(Element(1), 2_147_483_648),
+            Err(Refusal::NumberOutsideLimits),
+        )?;
+        check_eq(
+            list.put(Element(2), 2_147_483_648),
+            Err(Refusal::NoSuchElement),
+        )?;
     }
     check(entries == [-2_147_483_648, 2_147_483_647])
 }

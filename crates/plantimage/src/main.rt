@@ -99,11 +99,17 @@ fn list(rt: &LibcRuntime, image: &Image) -> io::Result<Outcome> {
 
 fn set(rt: &LibcRuntime, file: &str, element: &str, number: &str) -> io::Result<Outcome> {
     let Some(element) = read_element(element) else {
-        eprintln!(rt, "plantimage: '{element}' is no element number: write 0 to 65535")?;
+        eprintln!(
+            rt,
+            "plantimage: '{element}' is no element number: write 0 to 65535"
+        )?;
         return Ok(Outcome::Failed);
     };
     let Some(number) = read_number(number) else {
-        eprintln!(rt, "plantimage: '{number}' is no whole number within 64 bits")?;
+        eprintln!(
+            rt,
+            "plantimage: '{number}' is no whole number within 64 bits"
+        )?;
         return Ok(Outcome::Failed);
     };
     let mut bytes = match fs::read(rt, file) {

@@ -4,7 +4,7 @@ use mathlib.Core.Path.{sym, _≡_, ap, _∙_}
 use mathlib.Core.List.{List}
 use lib.ListN.{getD}
 use mir.Syntax.{w16}
-use mir.Val.{SFits}
+use mir.Val.{SFits, ofZ}
 use Rattle.std.proofs.shelf.Tests.{and-parts}
 use Rattle.std.proofs.shelf.Signed.{toZ-ofZ}
 use mathlib.Core.Bool.{true, false}
@@ -36,6 +36,7 @@ returns c =
     let is = put-done (c .args .bytes .now) (c .args .element .0) (c .args .number) there inside in
     let wide = c .fits .number in
     let narrow : SFits w16 (c .args .number) = bits-fit (c .args .number) (parts .0) (parts .1) in
-    let high : getD (c .to-be-bytes-cell .result) 0 0 ≡ bits-16 (c .args .number) / 256 = ap (λ (l : List ℕ). getD l 0 0) (c .to-be-bytes-cell .ensures) ∙ simp toZ-ofZ (cell .0) in
-    let low : getD (c .to-be-bytes-cell .result) 1 0 ≡ bits-16 (c .args .number) % 256 = ap (λ (l : List ℕ). getD l 1 0) (c .to-be-bytes-cell .ensures) ∙ simp toZ-ofZ (cell .1) in
+    let high : ofZ w16 (c .args .number) / 256 % 256 ≡ bits-16 (c .args .number) / 256 = cell .0 in
+    let low : ofZ w16 (c .args .number) % 256 ≡ bits-16 (c .args .number) % 256 = cell .1 in
+    let wrote = simp toZ-ofZ at (c .write-cell .ensures) in
     record { value = sym (is .0); after = cc }

@@ -3,5 +3,5 @@ use native.Mathlib.Omega.{arith}
 use Rattle.std.proofs.shelf.Lists.{length-take}
 use Rattle.plant.proofs.number_list.entry_count.Needs as need
 
-pub returns-then-entries-lt256 : need.returns-then-entries-lt256
-returns-then-entries-lt256 c = record { value = rw length-take (omega arith); bound = omega arith; entries = omega arith }
+pub returns : need.returns
+returns c = record { value = rw length-take (omega arith); bound = omega arith; entries = omega arith }
