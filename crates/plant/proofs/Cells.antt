@@ -1,23 +1,22 @@
 -- What the rules of tables say of an image.
-use mathlib.Core.Path.{_≡_, refl, sym, ap, _∙_, subst}
+use mathlib.Core.Path.{_≡_, refl, sym, ap, _∙_}
 use mathlib.Core.Bool.{Bool, true, false, cond, _&&_, not}
-use mathlib.Core.List.{List, [], _∷_}
+use mathlib.Core.List.{List}
 use mathlib.Core.Logic.{_≢_, _⊎_, inl, inr}
-use Prim.Native.Nat.{ℕ, zero, suc, _+_, _-_, _*_, _/_, _%_, _<_, _≤_}
+use Prim.Native.Nat.{ℕ, zero, suc, _+_, _*_, _/_, _%_, _<_, _≤_}
 use native.Mathlib.Omega.{arith}
-use lib.Dec.{ltb, leb, eqb}
+use lib.Dec.{ltb}
 use lib.IntN.{ℤ, pos, negsuc}
 use lib.Signed.{ltZ}
 use lib.ListN.{length, getD, set}
 use mir.Syntax.{w16}
 use mir.Val.{toZ, ofZ, SFits}
-use Rattle.std.specs.declared.result.Result.{Result}
 use Rattle.std.specs.declared.result.Result.the-variants.{Ok, Err}
 use Rattle.std.proofs.shelf.Lists.{length-set, getD-set-same, getD-set-other, same-lists}
 use Rattle.std.proofs.shelf.Tests.{lt-ltb, le-ltb, cond-true, cond-false, ltb-true, and-parts, and-left, and-right, and-from, cases-eq}
 use Rattle.plant.specs.declared.refusals.Refusal.the-variants.{NoSuchElement, NumberOutsideLimits}
 use Rattle.plant.specs.Meaning.{has, within, get-answer, put-answer, put-meaning, with-number}
-use Rattle.plant.specs.ByteTable.{word-at, stated-count, is-image, image-count, cell-place, signed-16, bits-16, cell-number, first-of, image-meaning, with-cell, bytes-after-put}
+use Rattle.plant.specs.ByteTable.{word-at, image-count, cell-place, signed-16, bits-16, cell-number, first-of, image-meaning, with-cell, bytes-after-put}
 
 pub length-first-of : (n : ℕ) (f : ℕ → ℤ) → length (first-of n f) ≡ n
 unfolding first-of

@@ -1,17 +1,16 @@
 -- What the rules of tables say of a number list.
-use mathlib.Core.Path.{_≡_, refl, sym, ap, _∙_}
+use mathlib.Core.Path.{_≡_, refl, ap, _∙_}
 use mathlib.Core.Bool.{Bool, true, false, cond, _&&_}
 use mathlib.Core.List.{List, [], _∷_}
-use Prim.Native.Nat.{ℕ, zero, suc, _<_, _≤_}
+use Prim.Native.Nat.{ℕ, zero, suc, _<_}
 use native.Mathlib.Omega.{arith}
 use lib.Dec.{ltb}
 use lib.IntN.{ℤ, pos, negsuc}
 use lib.ListN.{length, getD, take, set}
-use Rattle.std.specs.declared.result.Result.{Result}
-use Rattle.std.specs.declared.result.Result.the-variants.{Ok, Err}
+use Rattle.std.specs.declared.result.Result.the-variants.{Ok}
 use Rattle.std.proofs.shelf.Lists.{length-take, getD-take}
 use Rattle.std.proofs.shelf.Tests.{lt-ltb, cond-true}
-use Rattle.plant.specs.Meaning.{Meaning, has, within, get-answer, put-answer, put-meaning, with-number}
+use Rattle.plant.specs.Meaning.{has, within, get-answer, put-meaning, with-number}
 use Rattle.plant.specs.EntryTable.{list-meaning, entries-after-put}
 
 -- An element that the list has is an entry, and lies below 256.

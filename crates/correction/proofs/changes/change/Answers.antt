@@ -1,4 +1,3 @@
-use borrow.Author.Needs.{needs}
 use Rattle.std.proofs.shelf.Signed.{toZ-ofZ}
 use Rattle.correction.proofs.Refused.{refused-put}
 use Rattle.correction.proofs.changes.change.Needs as need

@@ -1,15 +1,13 @@
 use borrow.Author.Needs.{needs}
 use native.Mathlib.Omega.{arith}
-use mathlib.Core.Path.{sym, _≡_, ap, _∙_}
-use mathlib.Core.List.{List}
-use lib.ListN.{getD}
+use mathlib.Core.Path.{sym, _≡_}
 use mir.Syntax.{w16}
 use mir.Val.{SFits, ofZ}
 use Rattle.std.proofs.shelf.Tests.{and-parts}
 use Rattle.std.proofs.shelf.Signed.{toZ-ofZ}
 use mathlib.Core.Bool.{true, false}
-use Prim.Native.Nat.{ℕ, _≤_, _<_, _/_, _%_}
-use Rattle.plant.specs.ByteTable.{image-count, image-meaning, word-at, cell-place, bits-16}
+use Prim.Native.Nat.{_≤_, _<_, _/_, _%_}
+use Rattle.plant.specs.ByteTable.{image-count, image-meaning, bits-16}
 use Rattle.plant.specs.Meaning.{within}
 use Rattle.plant.proofs.Cells.{put-none, put-outside, put-done, bytes-of, bits-back, bits-fit}
 use Rattle.plant.proofs.image.put_cell.Needs as need

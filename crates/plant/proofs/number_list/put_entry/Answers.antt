@@ -1,6 +1,5 @@
-use borrow.Author.Needs.{needs}
 use native.Mathlib.Omega.{arith}
-use Rattle.std.proofs.shelf.Lists.{length-take, getD-take}
+use Rattle.std.proofs.shelf.Lists.{length-take}
 use Rattle.plant.proofs.number_list.put_entry.Needs as need
 
 pub index-entries-element : need.index-entries-element
