@@ -64,6 +64,16 @@ run 0 'element 0: 12000 -> 32767' set overnight.img 0 32767
 run 0 'element 7: -15 -> -32768' set overnight.img 7 -32768
 hold overnight.img 00087fff1d10016801fe2ed11cfc00008000
 
+# Permissions stay, and a file that cannot be written stays as it was.
+chmod 640 overnight.img
+run 0 'element 0: 32767 -> 1' set overnight.img 0 1
+same 'the permissions' "$(stat -c %a overnight.img)" 640
+cp "$root/examples/overnight.img" blocked.img
+mkdir blocked.img.new
+run 1 'plantimage: cannot write blocked.img: Is a directory (os error 21)' set blocked.img 0 1
+hold blocked.img "$overnight"
+rm -r blocked.img blocked.img.new
+
 # Refusals leave every byte.
 cp "$root/examples/overnight.img" overnight.img
 run 1 'plantimage: overnight.img: refused (5): the table has no such element' set overnight.img 8 1

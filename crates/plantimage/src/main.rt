@@ -132,12 +132,22 @@ fn save(rt: &LibcRuntime, file: &str, bytes: &[u8], done: Correction) -> io::Res
     }
 }
 
-// The new bytes are complete and on the disk before they take the old file's name.
+// A crash leaves the old image or the new one, since the new one is complete before it takes the name.
 fn replace(rt: &LibcRuntime, file: &str, bytes: &[u8]) -> io::Result<()> {
     let beside = format!(rt.alloc(), "{file}.new")?;
-    let mut out = File::create(rt, beside.as_str())?;
+    let written = write_beside(rt, file, beside.as_str(), bytes);
+    if written.is_err() {
+        let _ = fs::remove_file(rt, beside.as_str());
+    }
+    written
+}
+
+fn write_beside(rt: &LibcRuntime, file: &str, beside: &str, bytes: &[u8]) -> io::Result<()> {
+    // A copy has the permissions of its source.
+    fs::copy(rt, file, beside)?;
+    let mut out = File::create(rt, beside)?;
     out.write_all(bytes)?;
     out.sync_all()?;
     drop(out);
-    fs::rename(rt, beside.as_str(), file)
+    fs::rename(rt, beside, file)
 }
