@@ -1,0 +1,3 @@
+pub mod TrialsHold
+pub mod EachEffect
+pub mod Scanning

@@ -1,4 +1,6 @@
 // The words of the two-version protocol: calls, answers, client states and locks.
+ghost use Rattle.rules.specs.Effects.{Every-step-has-an-effect};
+ghost use Rattle.rules.specs.Trials.{Trials-hold};
 use plant::Element;
 use plant::ElementDebug;
 use plant::ElementEq;
@@ -8,6 +10,7 @@ use plant::RefusalDebug;
 use plant::RefusalEq;
 use plant::RefusalPartialEq;
 use ranks::Client;
+use ranks::Rank;
 
 // The number of a control task's pointer; 0 to 63 are pointers.
 #[derive(Clone, Copy, PartialEq, Eq, Debug)]
@@ -25,6 +28,20 @@ pub enum ClientState {
     Executing,
     Committing,
     ThrownOut,
+}
+
+// The calls of a client, as its state meets them.
+#[derive(Clone, Copy, PartialEq, Eq, Debug)]
+pub enum Move {
+    Begin,
+    Lock,
+    Read,
+    Change,
+    Commit,
+    GiveUp,
+    WriteBack,
+    End,
+    Clear,
 }
 
 // What became of a changed element at its write back.
@@ -70,4 +87,16 @@ pub enum Answer {
     Wait,
     Lost,
     Refused(Refusal),
+}
+
+// Every trial of the protocol comes out as expected of it.
+pub fn trials_hold()
+    ensures { λ _. ⌜ Trials-hold ⌝ }
+{
+}
+
+// Every call, in every state and with every rank list, goes one of the listed ways.
+pub fn every_step_has_an_effect<K: Rank>()
+    ensures { λ _. ⌜ Every-step-has-an-effect (K·Rank .above) ⌝ }
+{
 }
