@@ -1,0 +1,5 @@
+pub mod History
+pub mod Record
+pub mod Order
+pub mod Play
+pub mod Law
