@@ -18,3 +18,4 @@ pub mod OwnSteps
 pub mod AccessSteps
 pub mod Invariant
 pub mod RunLaw
+pub mod WorkedExample

@@ -3,3 +3,5 @@ pub mod Record
 pub mod Order
 pub mod Play
 pub mod Law
+pub mod Answers
+pub mod Worked
