@@ -1,36 +1,32 @@
 -- The record of a history is what the state shows of clients, kinds of locks, marks and ties.
-use mathlib.Core.Path.{_≡_, refl, sym, _∙_, ap, subst}
+use mathlib.Core.Path.{_≡_, refl, sym, _∙_, ap}
 use mathlib.Core.Bool.{Bool, true, false, cond, not, _&&_, _||_}
-use mathlib.Core.List.{List, [], _∷_}
-use Prim.Native.Nat.{ℕ, zero, suc}
+use mathlib.Core.List.{List}
+use Prim.Native.Nat.{ℕ}
 use lib.Dec.{eqb}
 use lib.IntN.{ℤ}
-use lib.ListN.{length}
 use Rattle.std.specs.declared.option.Option.{Option}
 use Rattle.std.specs.declared.option.Option.the-variants.{Some, None}
-use Rattle.std.specs.Options.{isSome, mapped}
+use Rattle.std.specs.Options.{isSome}
 use Rattle.std.proofs.shelf.Tests.{eqb-true, and-parts}
-use Rattle.plant.specs.Meaning.{Meaning}
 use Rattle.plant.specs.declared.refusals.Refusal.{Refusal}
 use Rattle.plant.specs.declared.tables.Element.{Element}
-use Rattle.ranks.specs.declared.Client.{Client}
 use Rattle.rules.specs.Scans.{at, some-below}
-use Rattle.rules.specs.State.{State, opening, is-write, holds, locked}
+use Rattle.rules.specs.State.{State, holds, locked}
 use Rattle.rules.specs.Locking.{conflicts, lock-conflicts, covers, leave, gain, granted-lock, mark-after}
-use Rattle.rules.specs.Calls.{answered, hard-written, changed-lock, taken-lock}
-use Rattle.rules.specs.Step.{step}
+use Rattle.rules.specs.Calls.{hard-written}
 use Rattle.rules.specs.Effects.{Effect, refusing, beginning, keeping, losing, waiting, gaining, reading, changing, entering, dropping, writing, ending, giving-up, clearing, binding, removing, hard-reading, hard-writing}
 use Rattle.rules.specs.declared.ClientState.{ClientState}
-use Rattle.rules.specs.declared.ClientState.the-variants.{Idle, Executing, Committing, ThrownOut}
+use Rattle.rules.specs.declared.ClientState.the-variants.{Idle, ThrownOut}
 use Rattle.rules.specs.declared.LockKind.{LockKind}
 use Rattle.rules.specs.declared.LockKind.the-variants.{Read, Write}
 use Rattle.rules.specs.declared.Lock.{Lock}
 use Rattle.rules.specs.declared.Call.{Call}
 use Rattle.rules.specs.declared.Call.the-variants.{Begin, Lock as Locks, Read as Reads, Change, Commit, WriteBack, End, GiveUp, Clear, Bind, Remove, HardRead, HardWrite}
 use Rattle.rules.specs.declared.Answer.{Answer}
-use Rattle.rules.specs.declared.Answer.the-variants.{Done, Number, WroteBack, Wait, Lost, Refused}
-use Rattle.law.specs.History.{Event, History, is-done}
-use Rattle.law.specs.Record.{Record, blank, holding, is-locked, kind-covers, kind-conflicts, in-conflict, in-state, begins-at, gone, mark-kept, gains, granted, marks, tied, noted, record-of}
+use Rattle.rules.specs.declared.Answer.the-variants.{Refused}
+use Rattle.law.specs.History.{is-done}
+use Rattle.law.specs.Record.{Record, holding, is-locked, kind-covers, kind-conflicts, in-conflict, gone, mark-kept, gains, granted, marks, noted}
 
 -- The kind of a lock that may be there.
 abbrev pub kind-of : Option Lock → Option LockKind
@@ -67,12 +63,12 @@ some-alike n p q same = ap (some-below n) (λ i c. same c i)
 gone-agrees : (those : ℕ → Bool) (after : ClientState) (s : State) (b : ℕ → ℕ) → gone those after (project s b) ≡ project (leave those after s) b
 gone-agrees those after s b =
     λ i.
-    record
-    { clients = λ d. cond (those d) after (s .clients d)
-    ; begun = b
-    ; kinds = λ d e. kind-cond (those d) None (s .locks d e) i
-    ; marked = s .marked
-    ; ties = s .ties
+    record {
+      clients = λ d. cond (those d) after (s .clients d);
+      begun = b;
+      kinds = λ d e. kind-cond (those d) None (s .locks d e) i;
+      marked = s .marked;
+      ties = s .ties;
     }
 
 mark-agrees : (s : State) (b : ℕ → ℕ) (c e : ℕ) (o : Option Lock) → mark-kept (project s b) c e (kind-of o) ≡ mark-after s c e o
@@ -84,48 +80,49 @@ mark-agrees s b c e (Some l) = refl
 
 -- One lock set among all.
 pub lock-at : {X : Type 0} (locks : ℕ → ℕ → X) (c e : ℕ) (l : X) (d f : ℕ) →
-  at locks c (at (locks c) e l) d f ≡ cond (eqb d c && eqb f e) l (locks d f)
+    at locks c (at (locks c) e l) d f ≡ cond (eqb d c && eqb f e) l (locks d f)
 lock-at {X} locks c e l d f = outer (eqb d c) refl
   where
-  outer : (x : Bool) → eqb d c ≡ x → cond {A = ℕ → X} x (at (locks c) e l) (locks d) f ≡ cond (x && eqb f e) l (locks d f)
-  outer true q = ap (λ n. cond (eqb f e) l (locks n f)) (sym (eqb-true d c q))
-  outer false q = refl
+    outer : (x : Bool) → eqb d c ≡ x → cond {A = ℕ → X} x (at (locks c) e l) (locks d) f ≡ cond (x && eqb f e) l (locks d f)
+    outer true q = ap (λ n. cond (eqb f e) l (locks n f)) (sym (eqb-true d c q))
+    outer false q = refl
 
 gains-agrees : (c : ℕ) (kind : LockKind) (e : ℕ) (s : State) (b : ℕ → ℕ) → gains c kind e (project s b) ≡ project (gain c kind e s) b
 gains-agrees c kind e s b =
     λ i.
-    record
-    { clients = s .clients
-    ; begun = b
-    ; kinds = λ d f. kinds d f i
-    ; marked = at (s .marked) e (mark-agrees s b c e (s .locks c e) i)
-    ; ties = s .ties
+    record {
+      clients = s .clients;
+      begun = b;
+      kinds = λ d f. kinds d f i;
+      marked = at (s .marked) e (mark-agrees s b c e (s .locks c e) i);
+      ties = s .ties;
     }
   where
-  flat : (d f : ℕ) (x : Bool) →
-    cond x (Some kind) (kind-of (s .locks d f)) ≡ kind-of (cond x (Some (granted-lock s kind e (s .locks c e))) (s .locks d f))
-  flat d f true = granted-kind s kind e (s .locks c e)
-  flat d f false = refl
-  kinds : (d f : ℕ) → gains c kind e (project s b) .kinds d f ≡ project (gain c kind e s) b .kinds d f
-  kinds d f =
-      lock-at (λ g h. kind-of (s .locks g h)) c e (Some kind) d f ∙ flat d f (eqb d c && eqb f e) ∙
-      ap kind-of (sym (lock-at (s .locks) c e (Some (granted-lock s kind e (s .locks c e))) d f))
+    flat : (d f : ℕ) (x : Bool) →
+        cond x (Some kind) (kind-of (s .locks d f)) ≡ kind-of (cond x (Some (granted-lock s kind e (s .locks c e))) (s .locks d f))
+    flat d f true = granted-kind s kind e (s .locks c e)
+    flat d f false = refl
+
+    kinds : (d f : ℕ) → gains c kind e (project s b) .kinds d f ≡ project (gain c kind e s) b .kinds d f
+    kinds d f =
+        lock-at (λ g h. kind-of (s .locks g h)) c e (Some kind) d f ∙ flat d f (eqb d c && eqb f e) ∙
+        ap kind-of (sym (lock-at (s .locks) c e (Some (granted-lock s kind e (s .locks c e))) d f))
 
 -- A lock of the same kind in the place of another.
 same-kinds : (s : State) (c e : ℕ) (l l′ : Lock) → s .locks c e ≡ Some l → l′ .kind ≡ l .kind →
-  (d f : ℕ) → kind-of (s .locks d f) ≡ kind-of (at (s .locks) c (at (s .locks c) e (Some l′)) d f)
+    (d f : ℕ) → kind-of (s .locks d f) ≡ kind-of (at (s .locks) c (at (s .locks c) e (Some l′)) d f)
 same-kinds s c e l l′ q k d f = flat (eqb d c && eqb f e) refl ∙ ap kind-of (sym (lock-at (s .locks) c e (Some l′) d f))
   where
-  flat : (x : Bool) → (eqb d c && eqb f e) ≡ x → kind-of (s .locks d f) ≡ kind-of (cond x (Some l′) (s .locks d f))
-  flat true r =
-      let both = and-parts (eqb d c) (eqb f e) r in
-      let one : d ≡ c = eqb-true d c (both .0) in
-      let two : f ≡ e = eqb-true f e (both .1) in
-      ap (λ n. kind-of (s .locks n f)) one ∙ ap (λ n. kind-of (s .locks c n)) two ∙ ap kind-of q ∙ ap (λ x. Some x) (sym k)
-  flat false r = refl
+    flat : (x : Bool) → (eqb d c && eqb f e) ≡ x → kind-of (s .locks d f) ≡ kind-of (cond x (Some l′) (s .locks d f))
+    flat true r =
+        let both = and-parts (eqb d c) (eqb f e) r in
+        let one : d ≡ c = eqb-true d c (both .0) in
+        let two : f ≡ e = eqb-true f e (both .1) in
+        ap (λ n. kind-of (s .locks n f)) one ∙ ap (λ n. kind-of (s .locks c n)) two ∙ ap kind-of q ∙ ap (λ x. Some x) (sym k)
+    flat false r = refl
 
 with-same-kinds : (s : State) (c e : ℕ) (l l′ : Lock) (b : ℕ → ℕ) → s .locks c e ≡ Some l → l′ .kind ≡ l .kind →
-  project s b ≡ record { clients = s .clients; begun = b; kinds = λ d f. kind-of (at (s .locks) c (at (s .locks c) e (Some l′)) d f); marked = s .marked; ties = s .ties }
+    project s b ≡ record { clients = s .clients; begun = b; kinds = λ d f. kind-of (at (s .locks) c (at (s .locks c) e (Some l′)) d f); marked = s .marked; ties = s .ties }
 with-same-kinds s c e l l′ b q k =
     λ i. record { clients = s .clients; begun = b; kinds = λ d f. same-kinds s c e l l′ q k d f i; marked = s .marked; ties = s .ties }
 
@@ -149,7 +146,7 @@ locked-agrees : (t : State) (b : ℕ → ℕ) (e : ℕ) → is-locked (project t
 locked-agrees t b e = some-alike 16 (λ c. holding (project t b) c e) (λ c. holds t c e) (λ c. kind-there (t .locks c e))
 
 conflict-agrees : (t : State) (b : ℕ → ℕ) (c : ℕ) (kind : LockKind) (e : ℕ) →
-  _≡_ {A = ℕ → Bool} (λ d. in-conflict (project t b) c kind e d) (λ d. conflicts t c kind e d)
+    _≡_ {A = ℕ → Bool} (λ d. in-conflict (project t b) c kind e d) (λ d. conflicts t c kind e d)
 conflict-agrees t b c kind e = λ i d. not (eqb d c) && conflicts-alike (t .marked e) kind (t .locks d e) i
 
 -- A begin names the new transaction, and nothing else names any.
@@ -184,11 +181,11 @@ not-named n (HardRead p) r b = refl
 not-named n (HardWrite p v) r b = refl
 
 covered-agrees : (t : State) (b : ℕ → ℕ) (c : ℕ) (kind : LockKind) (e : ℕ) → covers (t .locks c e) kind ≡ true →
-  granted c kind e (project t b) ≡ project t b
+    granted c kind e (project t b) ≡ project t b
 covered-agrees t b c kind e h = rw (covers-alike (t .locks c e) kind ∙ h)
 
 gained-agrees : (t : State) (b : ℕ → ℕ) (c : ℕ) (kind : LockKind) (e : ℕ) → covers (t .locks c e) kind ≡ false →
-  granted c kind e (project t b) ≡ project (gain c kind e (leave (λ d. conflicts t c kind e d) ThrownOut t)) b
+    granted c kind e (project t b) ≡ project (gain c kind e (leave (λ d. conflicts t c kind e d) ThrownOut t)) b
 gained-agrees t b c kind e h =
     rw (covers-alike (t .locks c e) kind ∙ h)
     (ap (λ those. gains c kind e (gone those ThrownOut (project t b))) (conflict-agrees t b c kind e) ∙
@@ -196,21 +193,21 @@ gained-agrees t b c kind e h =
     gains-agrees c kind e (leave (λ d. conflicts t c kind e d) ThrownOut t) b)
 
 marks-agrees : (t : State) (b : ℕ → ℕ) (o : Option Element) (e : Element) (v : ℤ) → o ≡ Some e →
-  marks o (project t b) ≡ project (hard-written t (e .0) v) b
+    marks o (project t b) ≡ project (hard-written t (e .0) v) b
 marks-agrees t b o e v q =
     ap (λ x. marks x (project t b)) q ∙
     (λ i.
-    record
-    { clients = t .clients
-    ; begun = b
-    ; kinds = λ c f. kind-of (t .locks c f)
-    ; marked = at (t .marked) (e .0) (t .marked (e .0) || locked-agrees t b (e .0) i)
-    ; ties = t .ties
+    record {
+      clients = t .clients;
+      begun = b;
+      kinds = λ c f. kind-of (t .locks c f);
+      marked = at (t .marked) (e .0) (t .marked (e .0) || locked-agrees t b (e .0) i);
+      ties = t .ties;
     })
 
 -- Each effect keeps the agreement.
 pub agrees : {K : Type 0} {above : K → K → Bool} {t : State} {ranks : List K} {call : Call K} {s : State} {a : Answer} →
-  Effect above t ranks call s a → (n : ℕ) (b : ℕ → ℕ) → noted n call a (project t b) ≡ project s (named n call a b)
+    Effect above t ranks call s a → (n : ℕ) (b : ℕ → ℕ) → noted n call a (project t b) ≡ project s (named n call a b)
 agrees {t = t} (refusing call r) n b = not-noted n call r (project t b) ∙ ap (project t) (sym (not-named n call r b))
 agrees (beginning c k small idle) n b = refl
 agrees {t = t} (keeping c kind e x covered) n b = covered-agrees t b (c .0) kind (e .0) covered

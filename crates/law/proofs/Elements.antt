@@ -1,31 +1,22 @@
 -- What every run keeps of one element: its trail; what is known of its locks, its mark, its second version and
 -- its number in the table; and how these numbers follow from the trail.
-use mathlib.Core.Path.{_≡_, refl, sym, _∙_, ap, subst}
-use mathlib.Core.Bool.{Bool, true, false, cond, not, _&&_, _||_}
-use mathlib.Core.List.{List, [], _∷_, _++_}
-use mathlib.Core.Logic.{_⊎_, inl, inr}
-use Prim.Native.Nat.{ℕ, suc, _≤_, _<_}
+use mathlib.Core.Path.{_≡_, refl, sym, ap, subst}
+use mathlib.Core.Bool.{Bool, true, false, cond, not, _&&_}
+use mathlib.Core.List.{List, [], _∷_}
+use Prim.Native.Nat.{ℕ, suc, _<_}
 use native.Mathlib.Omega.{arith}
-use lib.Dec.{eqb}
 use lib.IntN.{ℤ}
 use Rattle.std.specs.declared.option.Option.{Option}
 use Rattle.std.specs.declared.option.Option.the-variants.{Some, None}
-use Rattle.std.specs.Options.{isSome, valueOr, mapped}
-use Rattle.std.proofs.shelf.Lists.{append-assoc, append-nil}
-use Rattle.std.proofs.shelf.Tests.{and-parts, and-right, eqb-true, eqb-false, eq-eqb, ne-eqb, cases-bool, cases-lt}
-use Rattle.rules.specs.Scans.{at, some-below}
+use Rattle.std.specs.Options.{isSome, valueOr}
+use Rattle.rules.specs.Scans.{some-below}
 use Rattle.rules.specs.State.{is-write, for-writing}
 use Rattle.rules.specs.declared.ClientState.{ClientState}
-use Rattle.rules.specs.declared.ClientState.the-variants.{Idle, Executing, Committing, ThrownOut}
-use Rattle.rules.specs.declared.LockKind.{LockKind}
-use Rattle.rules.specs.declared.LockKind.the-variants.{Read, Write}
+use Rattle.rules.specs.declared.ClientState.the-variants.{Executing}
 use Rattle.rules.specs.declared.Lock.{Lock}
-use Rattle.rules.proofs.Scanning.{some-true, some-false, some-none, Found, some-found}
 use Rattle.law.specs.Record.{is-open}
-use Rattle.law.specs.Order.{those-that}
-use Rattle.law.proofs.Filters.{Each}
-use Rattle.law.proofs.Touches.{Touch, gives, takes, last, True-to, Placed, placed, touches, last-append, true-append, true-front, true-back, touches-append, touches-placed}
-use Rattle.law.proofs.Trails.{Quiet, Follows, Settled, Trail, Stays, same, fresh, trail-stays, trail-closes, trail-grows, trail-goes-on, holder-keeps, holder-moves, other-keeps, other-moves, trail-ends, later}
+use Rattle.law.proofs.Touches.{Touch, gives, takes, last, True-to, Placed, touches}
+use Rattle.law.proofs.Trails.{Trail, Stays, same, trail-stays}
 
 -- The holder's own touches are right from the base and end in its working copy, which is the base where it
 -- has changed nothing.
@@ -138,35 +129,35 @@ module _ (start : ℤ) (now : ℕ) (X A : List Placed) (clients clients′ : ℕ
   kept-clients k =
       let L = k .locking in
       let C = k .counts in
-      record
-      { front = k .front
-      ; early = k .early
-      ; tail = k .tail
-      ; trail = trail-stays now X A (λ c. is-open (clients c)) (λ c. is-open (clients′ c)) begun begun′ (λ c. isSome (locks c)) (λ c. isSome (locks c)) stays (k .front) (k .early) (k .tail) (k .trail)
-      ; locking =
-          record
-          { below = L .below
-          ; held = λ c l q.
-            let H = L .held c l q in
-            record
-            { opened = holders c l q .0
-            ; read-unchanged = H .read-unchanged
-            ; untaken = H .untaken
-            ; executing = λ x. H .executing (holders c l q .1 x)
-            ; present = H .present
-            ; level = H .level
-            ; written = H .written
-            }
-          ; single = L .single
-          ; no-second = L .no-second
-          }
-      ; counts =
-          record
-          { faithful = C .faithful
-          ; shown = C .shown
-          ; starts = C .starts
-          ; there = C .there
-          ; holder = λ c l q. subst (λ ts. Holder (last start (touches (k .front))) ts l) (sym (owns c (some-is (locks c) l q))) (C .holder c l q)
-          ; nothing-own = news
-          }
+      record {
+        front = k .front;
+        early = k .early;
+        tail = k .tail;
+        trail = trail-stays now X A (λ c. is-open (clients c)) (λ c. is-open (clients′ c)) begun begun′ (λ c. isSome (locks c)) (λ c. isSome (locks c)) stays (k .front) (k .early) (k .tail) (k .trail);
+        locking =
+            record {
+              below = L .below;
+              held = λ c l q.
+                  let H = L .held c l q in
+                  record {
+                    opened = holders c l q .0;
+                    read-unchanged = H .read-unchanged;
+                    untaken = H .untaken;
+                    executing = λ x. H .executing (holders c l q .1 x);
+                    present = H .present;
+                    level = H .level;
+                    written = H .written;
+                  };
+              single = L .single;
+              no-second = L .no-second;
+            };
+        counts =
+            record {
+              faithful = C .faithful;
+              shown = C .shown;
+              starts = C .starts;
+              there = C .there;
+              holder = λ c l q. subst (λ ts. Holder (last start (touches (k .front))) ts l) (sym (owns c (some-is (locks c) l q))) (C .holder c l q);
+              nothing-own = news;
+            };
       }

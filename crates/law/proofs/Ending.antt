@@ -1,31 +1,27 @@
 -- A transaction ends: for each element that it holds, the tail moves behind its own touches, and then it leaves.
 use mathlib.Core.Path.{_≡_, refl, sym, _∙_, ap, subst}
-use mathlib.Core.Bool.{Bool, true, false, cond, not, _&&_, _||_}
-use mathlib.Core.List.{List, [], _∷_, _++_}
-use mathlib.Core.Logic.{_⊎_, inl, inr}
-use Prim.Native.Nat.{ℕ, suc, _≤_, _<_}
-use native.Mathlib.Omega.{arith}
+use mathlib.Core.Bool.{Bool, true, false, cond, not, _&&_}
+use mathlib.Core.List.{List, [], _++_}
+use mathlib.Core.Logic.{inl, inr}
+use Prim.Native.Nat.{ℕ, suc, _<_}
 use lib.Dec.{eqb}
 use lib.IntN.{ℤ}
 use Rattle.std.specs.declared.option.Option.{Option}
 use Rattle.std.specs.declared.option.Option.the-variants.{Some, None}
-use Rattle.std.specs.Options.{isSome, valueOr, mapped}
-use Rattle.std.proofs.shelf.Lists.{append-assoc, append-nil}
-use Rattle.std.proofs.shelf.Tests.{and-parts, and-left, and-right, eqb-true, eqb-false, eq-eqb, ne-eqb, cases-bool, cases-lt, cases-eq}
-use Rattle.rules.specs.Scans.{at, some-below}
+use Rattle.std.specs.Options.{isSome, valueOr}
+use Rattle.std.proofs.shelf.Lists.{append-nil}
+use Rattle.std.proofs.shelf.Tests.{and-parts, and-left, and-right, eqb-true, eq-eqb, ne-eqb, cases-bool, cases-eq}
+use Rattle.rules.specs.Scans.{some-below}
 use Rattle.rules.specs.State.{is-write, for-writing}
 use Rattle.rules.specs.declared.ClientState.{ClientState}
-use Rattle.rules.specs.declared.ClientState.the-variants.{Idle, Executing, Committing, ThrownOut}
-use Rattle.rules.specs.declared.LockKind.{LockKind}
-use Rattle.rules.specs.declared.LockKind.the-variants.{Read, Write}
+use Rattle.rules.specs.declared.ClientState.the-variants.{Idle}
 use Rattle.rules.specs.declared.Lock.{Lock}
-use Rattle.rules.proofs.Scanning.{some-true, some-false, some-none, Found, some-found}
+use Rattle.rules.proofs.Scanning.{some-true, some-false, some-none}
 use Rattle.law.specs.Record.{is-open}
 use Rattle.law.specs.Order.{those-that}
-use Rattle.law.proofs.Filters.{Each}
-use Rattle.law.proofs.Touches.{Touch, gives, takes, last, True-to, Placed, placed, touches, last-append, true-append, true-front, true-back, touches-append, touches-placed}
-use Rattle.law.proofs.Trails.{Quiet, Follows, Settled, Trail, Stays, same, fresh, trail-stays, trail-closes, trail-grows, trail-goes-on, holder-keeps, holder-moves, other-keeps, other-moves, trail-ends, later}
-use Rattle.law.proofs.Elements.{Holder, Held, Locking, someone, Starts, is-there, Counts, Kept, never, true-not-false, there-is, is-none, some-is, not-dropped, starts-anywhere, ends-alike, there-touches, not-there}
+use Rattle.law.proofs.Touches.{Touch, last, True-to, Placed, placed, touches, last-append, true-append, true-front, true-back, touches-append, touches-placed}
+use Rattle.law.proofs.Trails.{Trail, same, trail-stays, trail-closes, holder-keeps, holder-moves, other-keeps, other-moves, trail-ends, later}
+use Rattle.law.proofs.Elements.{Holder, Held, Locking, someone, is-there, Kept, never, true-not-false, some-is, not-dropped, starts-anywhere, ends-alike, there-touches, not-there}
 use Rattle.law.proofs.Leaving.{stayed, locking-leaves, kept-leaves}
 
 module _ (start : ℤ) (now : ℕ) (X A : List Placed) (clients : ℕ → ClientState) (begun : ℕ → ℕ) (locks : ℕ → Option Lock)
@@ -118,9 +114,9 @@ module _ (start : ℤ) (now : ℕ) (X A : List Placed) (clients : ℕ → Client
     second-is false w =
         ap (λ b. cond b None second)
         (some-none 16 (λ d. leaver d && for-writing (locks d)) (λ d _.
-        elim (cases-eq d c0)
-        [ inl e ↦ and-right (leaver d) (for-writing (locks d)) (ap (λ n. for-writing (locks n)) e ∙ ap for-writing holds ∙ w)
-        | inr n ↦ and-left (leaver d) (for-writing (locks d)) (ne-eqb d c0 n)
+        elim (cases-eq d c0) [
+          | inl e ↦ and-right (leaver d) (for-writing (locks d)) (ap (λ n. for-writing (locks n)) e ∙ ap for-writing holds ∙ w)
+          | inr n ↦ and-left (leaver d) (for-writing (locks d)) (ne-eqb d c0 n)
         ]))
 
     -- With a tail the hard write counts as the later one.
@@ -134,7 +130,7 @@ module _ (start : ℤ) (now : ℕ) (X A : List Placed) (clients : ℕ → Client
 
     -- Without one it is the working copy that the table holds.
     copy-is : marked ≡ false → valueOr second number ≡ base → (b : Bool) → is-write (l0 .kind) ≡ b → (d : Bool) → l0 .changed ≡ d →
-      l0 .copy ≡ valueOr (cond b None second) number
+        l0 .copy ≡ valueOr (cond b None second) number
     copy-is m shown true w true ch = sym (L .written w (finished ch) m)
     copy-is m shown true w false ch =
         H .unchanged ch ∙ sym shown ∙ ap (λ o. valueOr o number) (L .level w (and-left (l0 .taken) (not marked) (L .untaken ch)))
@@ -144,20 +140,20 @@ module _ (start : ℤ) (now : ℕ) (X A : List Placed) (clients : ℕ → Client
     shown-moved : last start (touches moved) ≡ valueOr second-left number
     shown-moved = ends-in ∙ by (is-there (k .tail)) refl ∙ ap (λ o. valueOr o number) (sym (second-is (is-write (l0 .kind)) refl))
       where
-      by : (b : Bool) → is-there (k .tail) ≡ b → last (l0 .copy) (touches (k .tail)) ≡ valueOr (cond (is-write (l0 .kind)) None second) number
-      by true there = shown-with-tail there (is-write (l0 .kind)) refl
-      by false none =
-          let nil : k .tail ≡ [] = not-there (k .tail) none in
-          let m : marked ≡ false = sym (and-one marked (someone locks) locked-now) ∙ sym (k .counts .there) ∙ none in
-          ap (λ xs. last (l0 .copy) (touches xs)) nil ∙
-          copy-is m (sym shown-before ∙ ap (λ xs. last base (touches xs)) nil) (is-write (l0 .kind)) refl (l0 .changed) refl
-        where
-        and-one : (b d : Bool) → d ≡ true → (b && d) ≡ b
-        and-one true d e = e
-        and-one false d e = refl
+        by : (b : Bool) → is-there (k .tail) ≡ b → last (l0 .copy) (touches (k .tail)) ≡ valueOr (cond (is-write (l0 .kind)) None second) number
+        by true there = shown-with-tail there (is-write (l0 .kind)) refl
+        by false none =
+            let nil : k .tail ≡ [] = not-there (k .tail) none in
+            let m : marked ≡ false = sym (and-one marked (someone locks) locked-now) ∙ sym (k .counts .there) ∙ none in
+            ap (λ xs. last (l0 .copy) (touches xs)) nil ∙
+            copy-is m (sym shown-before ∙ ap (λ xs. last base (touches xs)) nil) (is-write (l0 .kind)) refl (l0 .changed) refl
+          where
+            and-one : (b d : Bool) → d ≡ true → (b && d) ≡ b
+            and-one true d e = e
+            and-one false d e = refl
 
     trail-moved : Trail (suc now) moved A (k .front ++ placed (λ b. false) (own c0)) (k .early) (k .tail)
-      (λ c. is-open (cond (leaver c) Idle (clients c))) begun (λ c. isSome (cond (leaver c) None (locks c)))
+        (λ c. is-open (cond (leaver c) Idle (clients c))) begun (λ c. isSome (cond (leaver c) None (locks c)))
     trail-moved =
         trail-stays now moved A (λ c. is-open (clients c)) (λ c. is-open (cond (leaver c) Idle (clients c))) begun begun (λ c. isSome (locks c)) (λ c. isSome (cond (leaver c) None (locks c)))
         (λ c o.
@@ -191,40 +187,40 @@ module _ (start : ℤ) (now : ℕ) (X A : List Placed) (clients : ℕ → Client
 
     by-holders : (b : Bool) → someone (λ d. cond (leaver d) None (locks d)) ≡ b → Ended moved
     by-holders true h =
-        record
-        { front = k .front ++ placed (λ b. false) (own c0)
-        ; early = k .early
-        ; tail = k .tail
-        ; trail = trail-moved
-        ; locking = locking-moved
-        ; counts =
-            record
-            { faithful = faithful-moved
-            ; shown = shown-moved
-            ; starts = k .counts .starts
-            ; there = k .counts .there ∙ ap (λ b. marked && b) (locked-now ∙ sym h)
-            ; holder = λ c l q. subst (λ v. Holder v (own c) l) (sym (other-base c l q)) (k .counts .holder c l (not-dropped (leaver c) (locks c) l q .1))
-            ; nothing-own = nothing-moved
-            }
+        record {
+          front = k .front ++ placed (λ b. false) (own c0);
+          early = k .early;
+          tail = k .tail;
+          trail = trail-moved;
+          locking = locking-moved;
+          counts =
+              record {
+                faithful = faithful-moved;
+                shown = shown-moved;
+                starts = k .counts .starts;
+                there = k .counts .there ∙ ap (λ b. marked && b) (locked-now ∙ sym h);
+                holder = λ c l q. subst (λ v. Holder v (own c) l) (sym (other-base c l q)) (k .counts .holder c l (not-dropped (leaver c) (locks c) l q .1));
+                nothing-own = nothing-moved;
+              };
         }
     by-holders false h =
-        record
-        { front = moved
-        ; early = A
-        ; tail = []
-        ; trail =
-            trail-closes (suc now) moved A (k .front ++ placed (λ b. false) (own c0)) (k .early) (k .tail) (λ c. is-open (cond (leaver c) Idle (clients c))) begun
-            (λ c. isSome (cond (leaver c) None (locks c))) (λ c o. nobody-left h c) trail-moved
-        ; locking = locking-moved
-        ; counts =
-            record
-            { faithful = faithful-moved
-            ; shown = shown-moved
-            ; starts = tt
-            ; there = sym (and-right marked (someone (λ d. cond (leaver d) None (locks d))) h)
-            ; holder = λ c l q. true-not-false (some-is (cond (leaver c) None (locks c)) l q) (nobody-left h c)
-            ; nothing-own = nothing-moved
-            }
+        record {
+          front = moved;
+          early = A;
+          tail = [];
+          trail =
+              trail-closes (suc now) moved A (k .front ++ placed (λ b. false) (own c0)) (k .early) (k .tail) (λ c. is-open (cond (leaver c) Idle (clients c))) begun
+              (λ c. isSome (cond (leaver c) None (locks c))) (λ c o. nobody-left h c) trail-moved;
+          locking = locking-moved;
+          counts =
+              record {
+                faithful = faithful-moved;
+                shown = shown-moved;
+                starts = tt;
+                there = sym (and-right marked (someone (λ d. cond (leaver d) None (locks d))) h);
+                holder = λ c l q. true-not-false (some-is (cond (leaver c) None (locks c)) l q) (nobody-left h c);
+                nothing-own = nothing-moved;
+              };
         }
 
     ended-holder : Ended ended-trail
@@ -233,6 +229,6 @@ module _ (start : ℤ) (now : ℕ) (X A : List Placed) (clients : ℕ → Client
   pub kept-ends : ((l : Lock) → locks c0 ≡ Some l → l .changed ≡ true → l .taken ≡ true) → Ended ended-trail
   kept-ends finished = by (locks c0) refl
     where
-    by : (o : Option Lock) → locks c0 ≡ o → Ended ended-trail
-    by None q = ended-other q
-    by (Some l) q = ended-holder l q (finished l q)
+      by : (o : Option Lock) → locks c0 ≡ o → Ended ended-trail
+      by None q = ended-other q
+      by (Some l) q = ended-holder l q (finished l q)

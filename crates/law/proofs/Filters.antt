@@ -1,7 +1,7 @@
 -- Lists: what holds of each, and those that pass a test.
-use mathlib.Core.Path.{_≡_, refl, sym, _∙_, ap, subst}
-use mathlib.Core.Bool.{Bool, true, false, cond, not, _&&_}
-use mathlib.Core.List.{List, [], _∷_, _++_, map}
+use mathlib.Core.Path.{_≡_, refl, ap}
+use mathlib.Core.Bool.{Bool, true, false, cond, _&&_}
+use mathlib.Core.List.{List, [], _∷_, _++_}
 use Rattle.law.specs.Order.{those-that}
 
 -- A fact holds of each of a list.
@@ -33,18 +33,18 @@ pub each-of-those : {X : Type 0} (P : X → Type 0) (p : X → Bool) (xs : List 
 each-of-those P p [] a = tt
 each-of-those P p (x ∷ xs) a = by (p x) (each-of-those P p xs (a .1))
   where
-  by : (b : Bool) → Each P (those-that p xs) → Each P (cond b (x ∷ those-that p xs) (those-that p xs))
-  by true rest = (a .0, rest)
-  by false rest = rest
+    by : (b : Bool) → Each P (those-that p xs) → Each P (cond b (x ∷ those-that p xs) (those-that p xs))
+    by true rest = (a .0, rest)
+    by false rest = rest
 
 pub those-append : {X : Type 0} (p : X → Bool) (xs ys : List X) → those-that p (xs ++ ys) ≡ those-that p xs ++ those-that p ys
 those-append p [] ys = refl
 those-append p (x ∷ xs) ys = by (p x) (those-append p xs ys)
   where
-  by : (b : Bool) → those-that p (xs ++ ys) ≡ those-that p xs ++ those-that p ys →
-    cond b (x ∷ those-that p (xs ++ ys)) (those-that p (xs ++ ys)) ≡ cond b (x ∷ those-that p xs) (those-that p xs) ++ those-that p ys
-  by true e = ap (λ zs. x ∷ zs) e
-  by false e = e
+    by : (b : Bool) → those-that p (xs ++ ys) ≡ those-that p xs ++ those-that p ys →
+        cond b (x ∷ those-that p (xs ++ ys)) (those-that p (xs ++ ys)) ≡ cond b (x ∷ those-that p xs) (those-that p xs) ++ those-that p ys
+    by true e = ap (λ zs. x ∷ zs) e
+    by false e = e
 
 pub those-none : {X : Type 0} (p : X → Bool) (xs : List X) → Each (λ x. p x ≡ false) xs → those-that p xs ≡ []
 those-none p [] a = refl
@@ -63,13 +63,13 @@ pub those-both : {X : Type 0} (p q : X → Bool) (xs : List X) → those-that (�
 those-both p q [] = refl
 those-both p q (x ∷ xs) = by (p x) refl (q x) (those-both p q xs)
   where
-  by : (b : Bool) → p x ≡ b → (d : Bool) → those-that (λ y. p y && q y) xs ≡ those-that p (those-that q xs) →
-    cond (b && d) (x ∷ those-that (λ y. p y && q y) xs) (those-that (λ y. p y && q y) xs) ≡
-    those-that p (cond d (x ∷ those-that q xs) (those-that q xs))
-  by true e true r = rw e (ap (λ zs. x ∷ zs) r)
-  by true e false r = r
-  by false e true r = rw e r
-  by false e false r = r
+    by : (b : Bool) → p x ≡ b → (d : Bool) → those-that (λ y. p y && q y) xs ≡ those-that p (those-that q xs) →
+        cond (b && d) (x ∷ those-that (λ y. p y && q y) xs) (those-that (λ y. p y && q y) xs) ≡
+        those-that p (cond d (x ∷ those-that q xs) (those-that q xs))
+    by true e true r = rw e (ap (λ zs. x ∷ zs) r)
+    by true e false r = r
+    by false e true r = rw e r
+    by false e false r = r
 
 pub each-maybe : {X : Type 0} (P : X → Type 0) (b : Bool) (x : X) → P x → Each P (cond b (x ∷ []) [])
 each-maybe P true x a = (a, tt)

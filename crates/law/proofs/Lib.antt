@@ -19,3 +19,4 @@ pub mod AccessSteps
 pub mod Invariant
 pub mod RunLaw
 pub mod WorkedExample
+pub mod PlainAnswers

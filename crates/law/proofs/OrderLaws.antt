@@ -1,6 +1,6 @@
 -- Two laws carry the order: an event that is no end puts its access, if it is one, behind all; an end keeps
 -- what stays, then puts the transaction, and behind it what moves there.
-use mathlib.Core.Path.{_≡_, refl, sym, _∙_, ap, subst}
+use mathlib.Core.Path.{_≡_, refl, _∙_, ap}
 use mathlib.Core.Bool.{Bool, true, false, cond, not, _&&_}
 use mathlib.Core.List.{List, [], _∷_, _++_}
 use Prim.Native.Nat.{ℕ, suc, _≤_, _<_}
@@ -23,7 +23,7 @@ use Rattle.law.specs.Order.{Entry, those-that, ended, accessed, accesses, ends
 use Rattle.law.proofs.Filters.{Each, each-append, each-weaker, each-always, those-append, those-none, those-all, those-same, those-both, each-maybe}
 
 group-more : (f g : Entry → ℕ) (A N : List Entry) (n : ℕ) → ((a : Entry) → f a ≡ g a) →
-  Each (λ a. g a < n) A → Each (λ a. g a ≡ n) N → those-that (λ a. eqb (f a) n) (A ++ N) ≡ N
+    Each (λ a. g a < n) A → Each (λ a. g a ≡ n) N → those-that (λ a. eqb (f a) n) (A ++ N) ≡ N
 group-more f g A N n same old new =
     let none : those-that (λ a. eqb (f a) n) A ≡ [] =
     those-none (λ a. eqb (f a) n) A
@@ -71,16 +71,16 @@ module _ {K : Type 0} where
   last-end-past (x ∷ h) a t e =
       by (ltb (a .moment) (length h) && ends-one-of (a .behind) (record-of h) (x .call) (x .answer)) (last-end-past h a t) e
     where
-    by : (b : Bool) → (last-end h a ≡ Some t → t < length h) → cond b (Some (length h)) (last-end h a) ≡ Some t → t < suc (length h)
-    by true before q = let s : length h ≡ t = cc in omega arith
-    by false before q = let l : t < length h = before q in omega arith
+      by : (b : Bool) → (last-end h a ≡ Some t → t < length h) → cond b (Some (length h)) (last-end h a) ≡ Some t → t < suc (length h)
+      by true before q = let s : length h ≡ t = cc in omega arith
+      by false before q = let l : t < length h = before q in omega arith
 
   pub place-past : (h : History K) (a : Entry) → a .moment < length h → place h a < length h
   place-past h a l = by (last-end h a) refl
     where
-    by : (o : Option ℕ) → last-end h a ≡ o → valueOr o (a .moment) < length h
-    by None e = l
-    by (Some t) e = last-end-past h a t e
+      by : (o : Option ℕ) → last-end h a ≡ o → valueOr o (a .moment) < length h
+      by None e = l
+      by (Some t) e = last-end-past h a t e
 
   -- An access stands behind no end that came before it.
   last-end-late : (h : History K) (a : Entry) → length h ≤ a .moment → last-end h a ≡ None
@@ -90,7 +90,7 @@ module _ {K : Type 0} where
       rw z (last-end-late h a (omega arith))
 
   walk-same : (f g : Entry → ℕ) (A B : List Entry) (h : History K) →
-    ((t : ℕ) → t < length h → those-that (λ a. eqb (f a) t) A ≡ those-that (λ a. eqb (g a) t) B) → walk f A h ≡ walk g B h
+      ((t : ℕ) → t < length h → those-that (λ a. eqb (f a) t) A ≡ those-that (λ a. eqb (g a) t) B) → walk f A h ≡ walk g B h
   walk-same f g A B [] same = refl
   walk-same f g A B (x ∷ h) same =
       let before : walk f A h ≡ walk g B h = walk-same f g A B h (λ t l. same t (omega arith)) in
@@ -114,9 +114,9 @@ module _ {K : Type 0} where
   ended-free b h (HardWrite p v) a = tt
 
   walk-sifted : (f g : Entry → ℕ) (A : List Entry) (b : ℕ) (h : History K) →
-    ((t : ℕ) → t < length h →
-    those-that (λ a. eqb (g a) t) A ≡ those-that (λ a. not (a .behind b)) (those-that (λ a. eqb (f a) t) A)) →
-    walk g A h ≡ those-that (λ a. not (a .behind b)) (walk f A h)
+      ((t : ℕ) → t < length h →
+      those-that (λ a. eqb (g a) t) A ≡ those-that (λ a. not (a .behind b)) (those-that (λ a. eqb (f a) t) A)) →
+      walk g A h ≡ those-that (λ a. not (a .behind b)) (walk f A h)
   walk-sifted f g A b [] same = refl
   walk-sifted f g A b (x ∷ h) same =
       let before : walk g A h ≡ those-that (λ a. not (a .behind b)) (walk f A h) = walk-sifted f g A b h (λ t l. same t (omega arith)) in
@@ -128,17 +128,17 @@ module _ {K : Type 0} where
 
   -- New accesses are put at their own moment, and alter nothing before it.
   walk-more : (f g : Entry → ℕ) (A N : List Entry) (h : History K) → ((a : Entry) → f a ≡ g a) →
-    Each (λ a. g a ≡ length h) N → walk f (A ++ N) h ≡ walk g A h
+      Each (λ a. g a ≡ length h) N → walk f (A ++ N) h ≡ walk g A h
   walk-more f g A N h same new = walk-same f g (A ++ N) A h at-each
     where
-    at-each : (t : ℕ) → t < length h → those-that (λ a. eqb (f a) t) (A ++ N) ≡ those-that (λ a. eqb (g a) t) A
-    at-each t l =
-        those-append (λ a. eqb (f a) t) A N ∙
-        (let old = those-same (λ a. eqb (f a) t) (λ a. eqb (g a) t) A (each-always _ A (λ a. ap (λ n. eqb n t) (same a))) in
-        let none : those-that (λ a. eqb (f a) t) N ≡ [] =
-        those-none (λ a. eqb (f a) t) N
-        (each-weaker (λ a. g a ≡ length h) (λ a. eqb (f a) t ≡ false) N (λ a e. let q = same a in ne-eqb (f a) t (λ z. omega arith)) new) in
-        cc (old, none, append-nil (those-that (λ a. eqb (g a) t) A)))
+      at-each : (t : ℕ) → t < length h → those-that (λ a. eqb (f a) t) (A ++ N) ≡ those-that (λ a. eqb (g a) t) A
+      at-each t l =
+          those-append (λ a. eqb (f a) t) A N ∙
+          (let old = those-same (λ a. eqb (f a) t) (λ a. eqb (g a) t) A (each-always _ A (λ a. ap (λ n. eqb n t) (same a))) in
+          let none : those-that (λ a. eqb (f a) t) N ≡ [] =
+          those-none (λ a. eqb (f a) t) N
+          (each-weaker (λ a. g a ≡ length h) (λ a. eqb (f a) t ≡ false) N (λ a e. let q = same a in ne-eqb (f a) t (λ z. omega arith)) new) in
+          cc (old, none, append-nil (those-that (λ a. eqb (g a) t) A)))
 
   -- Where no transaction of the set ends, the last end stays.
   same-last : (h : History K) (a : Entry) (b d : Bool) → d ≡ false → cond (b && d) (Some (length h)) (last-end h a) ≡ last-end h a
@@ -150,8 +150,8 @@ module _ {K : Type 0} where
 
   -- The first law.
   pub order-more : (x : Event K) (h : History K) → ended h (x .call) (x .answer) ≡ [] →
-    ((those : ℕ → Bool) (r : Record) → ends-one-of those r (x .call) (x .answer) ≡ false) →
-    order (x ∷ h) ≡ order h ++ accessed (length h) (record-of (x ∷ h)) (x .call) (x .answer)
+      ((those : ℕ → Bool) (r : Record) → ends-one-of those r (x .call) (x .answer) ≡ false) →
+      order (x ∷ h) ≡ order h ++ accessed (length h) (record-of (x ∷ h)) (x .call) (x .answer)
   order-more x h no-end none =
       let same : (a : Entry) → place (x ∷ h) a ≡ place h a = λ a. ap (λ o. valueOr o (a .moment)) (same-last h a (ltb (a .moment) (length h)) _ (none (a .behind) (record-of h))) in
       let new : Each (λ a. place h a ≡ length h) (accessed (length h) (record-of (x ∷ h)) (x .call) (x .answer)) =
@@ -166,19 +166,19 @@ module _ {K : Type 0} where
 
   -- The place after an end of the transaction b: that end for what stands behind b, else as before.
   end-place : (c : Client) (ranks : List K) (h : History K) (a : Entry) → a .moment < length h →
-    place (record { call = End c; ranks = ranks; answer = Done } ∷ h) a ≡ cond (a .behind (record-of h .begun (c .0))) (length h) (place h a)
+      place (record { call = End c; ranks = ranks; answer = Done } ∷ h) a ≡ cond (a .behind (record-of h .begun (c .0))) (length h) (place h a)
   end-place c ranks h a l = rw (lt-ltb (a .moment) (length h) l) (by (a .behind (record-of h .begun (c .0))))
     where
-    by : (b : Bool) → valueOr (cond b (Some (length h)) (last-end h a)) (a .moment) ≡ cond b (length h) (place h a)
-    by true = refl
-    by false = refl
+      by : (b : Bool) → valueOr (cond b (Some (length h)) (last-end h a)) (a .moment) ≡ cond b (length h) (place h a)
+      by true = refl
+      by false = refl
 
   -- The second law.
   pub order-end : (c : Client) (ranks : List K) (h : History K) →
-    order (record { call = End c; ranks = ranks; answer = Done } ∷ h) ≡
-    those-that (λ a. not (a .behind (record-of h .begun (c .0)))) (order h) ++
-    (record { moment = length h; steps = steps-since (c .0) h; behind = λ t. false } ∷
-    those-that (λ a. a .behind (record-of h .begun (c .0))) (accesses h))
+      order (record { call = End c; ranks = ranks; answer = Done } ∷ h) ≡
+      those-that (λ a. not (a .behind (record-of h .begun (c .0)))) (order h) ++
+      (record { moment = length h; steps = steps-since (c .0) h; behind = λ t. false } ∷
+      those-that (λ a. a .behind (record-of h .begun (c .0))) (accesses h))
   order-end c ranks h =
       let x : Event K = record { call = End c; ranks = ranks; answer = Done } in
       let b : ℕ = record-of h .begun (c .0) in

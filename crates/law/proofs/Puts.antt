@@ -1,10 +1,10 @@
 -- What a put leaves of a table.
-use mathlib.Core.Path.{_≡_, refl, sym, _∙_, ap, subst}
-use mathlib.Core.Bool.{Bool, true, false, cond, not, _&&_}
-use Prim.Native.Nat.{ℕ, _<_}
+use mathlib.Core.Path.{_≡_, refl, ap}
+use mathlib.Core.Bool.{Bool, true, false, cond}
+use Prim.Native.Nat.{ℕ}
 use lib.Dec.{ltb}
 use lib.IntN.{ℤ, pos}
-use lib.ListN.{length, getD, set}
+use lib.ListN.{length, set}
 use Rattle.std.proofs.shelf.Lists.{getD-set-same, getD-set-other, length-set}
 use Rattle.std.proofs.shelf.Tests.{ltb-true}
 use Rattle.plant.specs.Meaning.{Meaning, has, within, number, with-number, put-meaning}
@@ -13,10 +13,10 @@ use Rattle.plant.specs.Meaning.{Meaning, has, within, number, with-number, put-
 put-either : (P : Meaning → Type 0) (m : Meaning) (e : ℕ) (v : ℤ) → P (with-number m e v) → P m → P (put-meaning m e v)
 put-either P m e v p q = by (has m e) (within m v)
   where
-  by : (a b : Bool) → P (cond a (cond b (with-number m e v) m) m)
-  by true true = p
-  by true false = q
-  by false b = q
+    by : (a b : Bool) → P (cond a (cond b (with-number m e v) m) m)
+    by true true = p
+    by true false = q
+    by false b = q
 
 pub put-length : (m : Meaning) (e : ℕ) (v : ℤ) → length (put-meaning m e v .numbers) ≡ length (m .numbers)
 put-length m e v = put-either (λ n. length (n .numbers) ≡ length (m .numbers)) m e v (length-set (m .numbers) e v) refl

@@ -1,31 +1,25 @@
 -- The law of every run.
 use mathlib.Core.Path.{_≡_, refl, sym, _∙_, ap, subst}
-use mathlib.Core.Bool.{Bool, true, false, cond, not, _&&_, _||_}
-use mathlib.Core.List.{List, [], _∷_, _++_}
-use mathlib.Core.Logic.{_⊎_, inl, inr}
-use Prim.Native.Nat.{ℕ, suc, _≤_, _<_}
-use native.Mathlib.Omega.{arith}
+use mathlib.Core.Bool.{Bool, true, false, cond, not, _&&_}
+use mathlib.Core.List.{List, [], _∷_}
+use mathlib.Core.Logic.{inl, inr}
+use Prim.Native.Nat.{ℕ, _≤_, _<_}
 use lib.Dec.{eqb}
-use lib.IntN.{ℤ}
 use Rattle.std.specs.declared.option.Option.{Option}
 use Rattle.std.specs.declared.option.Option.the-variants.{Some, None}
-use Rattle.std.specs.Options.{isSome, valueOr, mapped}
-use Rattle.std.proofs.shelf.Lists.{append-assoc, append-nil}
-use Rattle.std.proofs.shelf.Tests.{and-parts, and-left, and-right, eqb-true, eqb-false, eq-eqb, ne-eqb, cases-bool, cases-lt, cases-eq}
+use Rattle.std.specs.Options.{isSome}
+use Rattle.std.proofs.shelf.Tests.{and-parts, eqb-true, eq-eqb, cases-bool, cases-eq}
 use Rattle.rules.specs.Scans.{at, some-below}
-use Rattle.rules.specs.State.{is-write, for-writing}
+use Rattle.rules.specs.State.{for-writing}
 use Rattle.rules.specs.declared.ClientState.{ClientState}
 use Rattle.rules.specs.declared.ClientState.the-variants.{Idle, Executing, Committing, ThrownOut}
 use Rattle.rules.specs.declared.LockKind.{LockKind}
-use Rattle.rules.specs.declared.LockKind.the-variants.{Read, Write}
 use Rattle.rules.specs.declared.Lock.{Lock}
-use Rattle.rules.proofs.Scanning.{some-true, some-false, some-none, Found, some-found}
+use Rattle.rules.proofs.Scanning.{some-false, some-found}
 use Rattle.law.specs.Record.{is-open}
-use Rattle.law.specs.Order.{those-that}
-use Rattle.law.proofs.Filters.{Each}
-use Rattle.law.proofs.Touches.{Touch, gives, takes, last, True-to, Placed, placed, touches, last-append, true-append, true-front, true-back, touches-append, touches-placed}
-use Rattle.law.proofs.Trails.{Quiet, Follows, Settled, Trail, Stays, same, fresh, trail-stays, trail-closes, trail-grows, trail-goes-on, holder-keeps, holder-moves, other-keeps, other-moves, trail-ends, later}
-use Rattle.law.proofs.Elements.{Holder, Held, Locking, someone, Starts, is-there, Counts, Kept, never, true-not-false, there-is, is-none, some-is, not-dropped, starts-anywhere, ends-alike, there-touches, not-there}
+use Rattle.law.proofs.Touches.{last, True-to}
+use Rattle.law.proofs.Trails.{same}
+use Rattle.law.proofs.Elements.{never, is-none}
 use lib.ListN.{length}
 use Rattle.plant.specs.Meaning.{Meaning, number}
 use Rattle.ranks.specs.declared.Client.{Client}
@@ -33,68 +27,27 @@ use Rattle.rules.specs.State.{State, is-committing}
 use Rattle.rules.specs.Locking.{leave, conflicts, lock-conflicts}
 use Rattle.rules.specs.Calls.{with-client}
 use Rattle.rules.specs.declared.Call.{Call}
-use Rattle.rules.specs.declared.Call.the-variants.{Begin, Lock as Locks, Read as Reads, Change, Commit, WriteBack, End, GiveUp, Clear, Bind, Remove, HardRead, HardWrite}
+use Rattle.rules.specs.declared.Call.the-variants.{Begin, Lock as Locks}
 use Rattle.rules.specs.declared.Answer.{Answer}
-use Rattle.rules.specs.declared.Answer.the-variants.{Done, Number, WroteBack, Wait, Lost, Refused}
+use Rattle.rules.specs.declared.Answer.the-variants.{Done, Wait, Lost}
 use Rattle.law.specs.History.{Event, History}
 use Rattle.law.specs.Record.{Record, record-of}
-use Rattle.law.specs.Order.{accesses, order, begins, own-steps, steps-since, accessed}
-use Rattle.law.proofs.Touches.{on, trace}
-use Rattle.law.proofs.Elements.{kept-clients}
-use Rattle.law.proofs.Leaving.{kept-leaves}
-use Rattle.law.proofs.OrderLaws.{order-more}
+use Rattle.law.specs.Order.{order}
 use Rattle.law.proofs.Gaining.{at-here, at-other}
-use Rattle.law.proofs.Silent.{Ordinary, Silent, ordinary-order, ordinary-steps, silent-order, silent-accesses, silent-steps, kept-as}
-use Rattle.plant.specs.Meaning.{has, within, put-meaning}
 use Rattle.plant.specs.declared.tables.Element.{Element as TableElement}
-use Rattle.rules.specs.Locking.{gain, granted-lock, mark-after, covers, kinds-conflict}
-use Rattle.rules.specs.Calls.{with-lock, with-table-number, changed-lock, taken-lock}
-use Rattle.law.specs.Order.{Step, reads, sets}
-use Rattle.law.proofs.Touches.{on-append}
-use Rattle.law.proofs.Agreement.{lock-at}
-use Rattle.law.proofs.Gaining.{kept-new, kept-upgrade}
-use Rattle.law.proofs.Owning.{kept-own}
-use Rattle.law.proofs.Puts.{put-here, put-other}
-use Rattle.law.proofs.ClientSteps.{Element, Between, still}
-use lib.Dec.{ltb}
-use Rattle.std.proofs.shelf.Tests.{ltb-true, not-false}
-use Rattle.rules.specs.Calls.{next-left, is-left, hard-written}
-use Rattle.rules.specs.State.{shows, locked}
-use Rattle.rules.specs.declared.Pointer.{Pointer}
-use Rattle.rules.proofs.Scanning.{first-none}
-use Rattle.law.specs.Order.{ended, ends-one-of}
-use Rattle.law.specs.Order.{Entry, holders-if-marked, hard-read-steps, hard-write-steps, read-step}
-use Rattle.law.proofs.Touches.{trace-append, trace-those}
-use Rattle.law.proofs.OrderLaws.{order-end}
-use Rattle.law.proofs.Agreement.{project, kind-of, kind-there}
-use Rattle.law.proofs.Accessing.{holders-of, kept-read, kept-write}
-use Rattle.law.proofs.Ending.{kept-ends}
-use Rattle.law.proofs.LockSteps.{lock-here, lock-elsewhere}
-use Rattle.law.proofs.OwnSteps.{read-elsewhere, set-elsewhere, read-here, set-here}
-use Rattle.plant.specs.declared.refusals.Refusal.{Refusal}
-use Rattle.rules.specs.State.{opening}
-use Rattle.rules.specs.Calls.{with-tie}
-use Rattle.rules.specs.declared.Fate.the-variants.{Written, Dropped}
+use Rattle.rules.specs.Locking.{gain}
+use Rattle.law.specs.Order.{reads}
+use Rattle.law.proofs.Agreement.{kind-of, kind-there}
 use Rattle.rules.specs.Effects.{Effect, refusing, beginning, keeping, losing, waiting, gaining, reading, changing, entering, dropping, writing, ending, giving-up, clearing, binding, removing, hard-reading, hard-writing}
-use Rattle.law.specs.Record.{noted, blank}
-use Rattle.law.proofs.Agreement.{agrees, named, not-named}
-use Rattle.law.proofs.Leaving.{stayed}
-use Rattle.law.proofs.Once.{Rearranged, rearranged-plain, rearranged-end}
-use Rattle.law.proofs.Puts.{put-length, put-has, put-within}
-use Rattle.law.proofs.Silent.{refused-silent}
-use Rattle.law.proofs.ClientSteps.{silent-element, enters, clears, begins-anew, leaves, conflicting-execute}
-use Rattle.law.proofs.LockSteps.{gains-lock, takes-dropped, takes-written}
-use Rattle.law.proofs.OwnSteps.{reads-copy, changes-copy}
-use Rattle.law.proofs.AccessSteps.{reads-shown, writes-hard, ends-whole}
 use Rattle.ranks.specs.Standing.{Order, stands-above}
 use Rattle.ranks.proofs.Stands.{decides}
 use Rattle.rules.specs.Calls.{Outcome, answered}
-use Rattle.rules.specs.Step.{step, ranks-after}
+use Rattle.rules.specs.Step.{step}
 use Rattle.rules.proofs.EachEffect.{every-step}
 use Rattle.law.specs.History.{Leads}
 use Rattle.law.specs.Record.{holding, kind-writes, is-write-locked}
-use Rattle.law.specs.Play.{Right, after-steps, all-steps}
-use Rattle.law.specs.Law.{list-after, asks-ranks, One-list, Highest, Committing-holder, Goes-on, Highest-goes-on, Law-of-run, Every-run-has-the-law, Second-version-while-write-locked}
+use Rattle.law.specs.Play.{all-steps}
+use Rattle.law.specs.Law.{list-after, asks-ranks, One-list, Highest, Goes-on, Highest-goes-on, Law-of-run, Every-run-has-the-law, Second-version-while-write-locked}
 use Rattle.law.proofs.Touches.{leaves as leaves-at, plays-right, trace-steps}
 use Rattle.law.proofs.Leaving.{writer-of}
 use Rattle.law.proofs.Once.{once}
@@ -102,7 +55,7 @@ use Rattle.law.proofs.Invariant.{Inv, inv-start, inv-step}
 
 -- The last step of a run.
 pub last-effect : {K : Type 0} (above : K → K → Bool) (t : State) (x : Event K) (s : State) → step above t (x .ranks) (x .call) ≡ answered s (x .answer) →
-  Effect above t (x .ranks) (x .call) s (x .answer)
+    Effect above t (x .ranks) (x .call) s (x .answer)
 last-effect above t x s e = subst (λ (o : Outcome). Effect above t (x .ranks) (x .call) (o .state) (o .answer)) e (every-step above t (x .ranks) (x .call))
 
 -- Every run keeps what is kept.
@@ -128,12 +81,12 @@ module _ {K : Type 0} (above : K → K → Bool) (O : Order above) (m : Meaning)
       let down : stands-above above ranks (f .found) c ≡ false = decides above O .asymmetric ranks c (f .found) up in
       never (let w : true ≡ false = sym (both .1) ∙ ap (stands-above above ranks (f .found)) (sym z) ∙ down in cc)
     where
-    conflict-lock : (mark : Bool) (kind : LockKind) (o : Option Lock) → lock-conflicts mark kind o ≡ true → (l : Lock) × (o ≡ Some l)
-    conflict-lock mark k None h = never (cc)
-    conflict-lock mark k (Some l) h = (l, refl)
+      conflict-lock : (mark : Bool) (kind : LockKind) (o : Option Lock) → lock-conflicts mark kind o ≡ true → (l : Lock) × (o ≡ Some l)
+      conflict-lock mark k None h = never (cc)
+      conflict-lock mark k (Some l) h = (l, refl)
 
   by-grant : (c1 : ℕ) (kind : LockKind) (e : ℕ) → t .clients c1 ≡ Executing → some-below 16 (λ d. conflicts t c1 kind e d && stands-above above ranks d c1) ≡ false →
-    conflicts t c1 kind e c ≡ true → ⊥
+      conflicts t c1 kind e c ≡ true → ⊥
   by-grant c1 kind e ex unbeaten inside =
       let parts = and-parts (not (eqb c c1)) (lock-conflicts (t .marked e) kind (t .locks c e)) inside in
       let l = conflict-lock (t .marked e) kind (t .locks c e) (parts .1) in
@@ -143,9 +96,9 @@ module _ {K : Type 0} (above : K → K → Bool) (O : Order above) (m : Meaning)
       let none = some-false 16 (λ d. conflicts t c1 kind e d && stands-above above ranks d c1) unbeaten c small in
       never (let w : true ≡ false = sym (rw (inside, up)) ∙ none in cc)
     where
-    conflict-lock : (mark : Bool) (kind : LockKind) (o : Option Lock) → lock-conflicts mark kind o ≡ true → (l : Lock) × (o ≡ Some l)
-    conflict-lock mark k None h = never (cc)
-    conflict-lock mark k (Some l) h = (l, refl)
+      conflict-lock : (mark : Bool) (kind : LockKind) (o : Option Lock) → lock-conflicts mark kind o ≡ true → (l : Lock) × (o ≡ Some l)
+      conflict-lock mark k None h = never (cc)
+      conflict-lock mark k (Some l) h = (l, refl)
 
   set-out : (c1 : ℕ) (after : ClientState) → (after ≡ ThrownOut → ⊥) → at (t .clients) c1 after c ≡ ThrownOut → ⊥
   set-out c1 after n e =
@@ -189,8 +142,8 @@ lock-there mark kind (Some l) h = refl
 
 -- A lock waits only for another client that is committing and holds the element.
 waits : {K : Type 0} {above : K → K → Bool} {t : State} {ranks : List K} {call : Call K} {s : State} {a : Answer} → Effect above t ranks call s a →
-  (caller : Client) (kind : LockKind) (e : TableElement) → call ≡ Locks caller kind e → a ≡ Wait →
-  (d : ℕ) × (d ≡ caller .0 → ⊥) × (t .clients d ≡ Committing) × (isSome (t .locks d (e .0)) ≡ true)
+    (caller : Client) (kind : LockKind) (e : TableElement) → call ≡ Locks caller kind e → a ≡ Wait →
+    (d : ℕ) × (d ≡ caller .0 → ⊥) × (t .clients d ≡ Committing) × (isSome (t .locks d (e .0)) ≡ true)
 waits (refusing call r) caller kind e q w = never (cc)
 waits (beginning c1 k small idle) caller kind e q w = never (cc)
 waits (keeping c1 k1 e1 x covered) caller kind e q w = never (cc)
@@ -200,11 +153,12 @@ waits {t = t} (waiting c1 k1 e1 x held-up) caller kind e q w =
     let both = and-parts (conflicts t (c1 .0) k1 (e1 .0) (f .found)) (is-committing (t .clients (f .found))) (f .passes) in
     let parts = and-parts (not (eqb (f .found) (c1 .0))) (lock-conflicts (t .marked (e1 .0)) k1 (t .locks (f .found) (e1 .0))) (both .0) in
     let same-client : c1 ≡ caller = cc in
-    let same-element : e1 ≡ e = cc in
-    (f .found,
-    (λ z. never (let y : true ≡ false = sym (parts .0) ∙ ap not (eq-eqb (f .found) (c1 .0) (z ∙ ap (λ (k : Client). k .0) (sym same-client))) in cc)),
-    committing-is (t .clients (f .found)) (both .1),
-    ap (λ (g : TableElement). isSome (t .locks (f .found) (g .0))) (sym same-element) ∙ lock-there (t .marked (e1 .0)) k1 (t .locks (f .found) (e1 .0)) (parts .1))
+    let same-element : e1 ≡ e = cc in (
+      f .found,
+      (λ z. never (let y : true ≡ false = sym (parts .0) ∙ ap not (eq-eqb (f .found) (c1 .0) (z ∙ ap (λ (k : Client). k .0) (sym same-client))) in cc)),
+      committing-is (t .clients (f .found)) (both .1),
+      ap (λ (g : TableElement). isSome (t .locks (f .found) (g .0))) (sym same-element) ∙ lock-there (t .marked (e1 .0)) k1 (t .locks (f .found) (e1 .0)) (parts .1),
+    )
 waits (gaining c1 k1 e1 small x there uncovered unbeaten free) caller kind e q w = never (cc)
 waits (reading c1 e1 l x r) caller kind e q w = never (cc)
 waits (changing c1 e1 v l x r writes inside) caller kind e q w = never (cc)
@@ -221,7 +175,7 @@ waits (hard-writing p v e1 r there inside) caller kind e q w = never (cc)
 
 -- A call that looks at no ranks goes the same way with any list.
 any-ranks : {K : Type 0} {above : K → K → Bool} {t : State} {ranks : List K} {call : Call K} {s : State} {a : Answer} (others : List K) →
-  (asks-ranks call ≡ true → ranks ≡ others) → Effect above t ranks call s a → Effect above t others call s a
+    (asks-ranks call ≡ true → ranks ≡ others) → Effect above t ranks call s a → Effect above t others call s a
 any-ranks others alike (refusing call r) = refusing call r
 any-ranks {above = above} {t = t} others alike (beginning c k small idle) = subst (λ r. Effect above t r (Begin c k) (with-client t (c .0) Executing) Done) (alike refl) (beginning c k small idle)
 any-ranks {above = above} {t = t} others alike (keeping c kind e x covered) = keeping c kind e x covered
@@ -246,26 +200,26 @@ any-ranks others alike (hard-writing p v e q there inside) = hard-writing p v e 
 
 module _ {K : Type 0} (above : K → K → Bool) (O : Order above) (m : Meaning) (small : length (m .numbers) ≤ 256) where
   goes-on : (first : List K) (x : Event K) (h : History K) (s : State) (r : Leads above m (x ∷ h) s) →
-    (asks-ranks (x .call) ≡ true → x .ranks ≡ list-after first h) → (c : ℕ) → Highest above (list-after first h) (record-of h) c →
-    Goes-on x (record-of h) (record-of (x ∷ h)) c
+      (asks-ranks (x .call) ≡ true → x .ranks ≡ list-after first h) → (c : ℕ) → Highest above (list-after first h) (record-of h) c →
+      Goes-on x (record-of h) (record-of (x ∷ h)) c
   goes-on first x h s r handed c top =
       let t : State = r .0 in
       let v : Inv m h t = inv-run above m small h t (r .1) in
       let w : Inv m (x ∷ h) s = inv-run above m small (x ∷ h) s r in
       let f : Effect above t (list-after first h) (x .call) s (x .answer) = any-ranks (list-after first h) handed (last-effect above t x s (r .2)) in
       let at-state : (d : ℕ) → record-of h .clients d ≡ t .clients d = λ d. ap (λ (q : Record). q .clients d) (v .agreed) in
-      record
-      { not-thrown-out = λ out.
-        stays-in above O m h t v (list-after first h) c (sym (ap is-open (at-state c)) ∙ top .opened)
-        (λ d o n. top .highest d (ap is-open (at-state d) ∙ o) n) f (sym (ap (λ (q : Record). q .clients c) (w .agreed)) ∙ out)
-      ; waits-only = λ caller kind e called by-c waited.
-        let g = waits f caller kind e called waited in
-        record
-        { holder = g .0
-        ; other = λ z. g .1 (z ∙ sym by-c)
-        ; committing = at-state (g .0) ∙ g .2
-        ; holds = ap (λ (q : Record). holding q (g .0) (e .0)) (v .agreed) ∙ kind-there (t .locks (g .0) (e .0)) ∙ g .3
-        }
+      record {
+        not-thrown-out = λ out.
+            stays-in above O m h t v (list-after first h) c (sym (ap is-open (at-state c)) ∙ top .opened)
+            (λ d o n. top .highest d (ap is-open (at-state d) ∙ o) n) f (sym (ap (λ (q : Record). q .clients c) (w .agreed)) ∙ out);
+        waits-only = λ caller kind e called by-c waited.
+            let g = waits f caller kind e called waited in
+            record {
+              holder = g .0;
+              other = λ z. g .1 (z ∙ sym by-c);
+              committing = at-state (g .0) ∙ g .2;
+              holds = ap (λ (q : Record). holding q (g .0) (e .0)) (v .agreed) ∙ kind-there (t .locks (g .0) (e .0)) ∙ g .3;
+            };
       }
 
   highest-goes-on : (first : List K) (h : History K) (s : State) → Leads above m h s → One-list first h → Highest-goes-on above first h
@@ -276,18 +230,18 @@ module _ {K : Type 0} (above : K → K → Bool) (O : Order above) (m : Meaning)
   pub law-of-run : (h : History K) (s : State) → Leads above m h s → Law-of-run above m h s
   law-of-run h s r =
       let v : Inv m h s = inv-run above m small h s r in
-      record
-      { once = once h (v .rearranged)
-      ; reads = plays-right (number m) (all-steps (order h)) (λ e. subst (True-to (number m e)) (sym (trace-steps e (order h))) (v .element e .counts .faithful))
-      ; shows-last = λ e there. leaves-at (number m) (all-steps (order h)) e ∙ ap (last (number m e)) (trace-steps e (order h)) ∙ v .element e .counts .shown
-      ; highest-goes-on = λ first handed. highest-goes-on first h s r handed
+      record {
+        once = once h (v .rearranged);
+        reads = plays-right (number m) (all-steps (order h)) (λ e. subst (True-to (number m e)) (sym (trace-steps e (order h))) (v .element e .counts .faithful));
+        shows-last = λ e there. leaves-at (number m) (all-steps (order h)) e ∙ ap (last (number m e)) (trace-steps e (order h)) ∙ v .element e .counts .shown;
+        highest-goes-on = λ first handed. highest-goes-on first h s r handed;
       }
 
 pub every-run : {K : Type 0} (above : K → K → Bool) → Order above → Every-run-has-the-law above
 every-run above O m h s small r = law-of-run above O m small h s r
 
 -- A second version is there exactly while somebody holds the element for writing.
-kind-writing : (o : Option Lock) → kind-writes (kind-of o) ≡ for-writing o
+pub kind-writing : (o : Option Lock) → kind-writes (kind-of o) ≡ for-writing o
 kind-writing None = refl
 kind-writing (Some l) = refl
 
@@ -295,16 +249,18 @@ pub second-while-locked : {K : Type 0} (above : K → K → Bool) → Second-ver
 second-while-locked above m h s small r e =
     by (some-below 16 (λ c. for-writing (s .locks c e))) refl ∙ sym record-says
   where
-  v : Inv m h s
-  v = inv-run above m small h s r
-  record-says : is-write-locked (record-of h) e ≡ some-below 16 (λ c. for-writing (s .locks c e))
-  record-says = ap (λ (q : Record). is-write-locked q e) (v .agreed) ∙ ap (some-below 16) (λ i c. kind-writing (s .locks c e) i)
-  by : (b : Bool) → some-below 16 (λ c. for-writing (s .locks c e)) ≡ b → isSome (s .second e) ≡ some-below 16 (λ c. for-writing (s .locks c e))
-  by true w =
-      let f = some-found 16 (λ c. for-writing (s .locks c e)) w in
-      let l = writer-of (s .locks (f .found) e) (f .passes) in
-      v .element e .locking .held (f .found) (l .0) (l .1) .present (l .2) ∙ sym w
-  by false w =
-      ap isSome (v .element e .locking .no-second (λ c.
-      elim (cases-bool (isSome (s .locks c e)))
-      [ inl i ↦ some-false 16 (λ d. for-writing (s .locks d e)) w c (v .element e .locking .below c i) | inr i ↦ ap for-writing (is-none (s .locks c e) i) ])) ∙ sym w
+    v : Inv m h s
+    v = inv-run above m small h s r
+
+    record-says : is-write-locked (record-of h) e ≡ some-below 16 (λ c. for-writing (s .locks c e))
+    record-says = ap (λ (q : Record). is-write-locked q e) (v .agreed) ∙ ap (some-below 16) (λ i c. kind-writing (s .locks c e) i)
+
+    by : (b : Bool) → some-below 16 (λ c. for-writing (s .locks c e)) ≡ b → isSome (s .second e) ≡ some-below 16 (λ c. for-writing (s .locks c e))
+    by true w =
+        let f = some-found 16 (λ c. for-writing (s .locks c e)) w in
+        let l = writer-of (s .locks (f .found) e) (f .passes) in
+        v .element e .locking .held (f .found) (l .0) (l .1) .present (l .2) ∙ sym w
+    by false w =
+        ap isSome (v .element e .locking .no-second (λ c.
+        elim (cases-bool (isSome (s .locks c e)))
+        [ inl i ↦ some-false 16 (λ d. for-writing (s .locks d e)) w c (v .element e .locking .below c i) | inr i ↦ ap for-writing (is-none (s .locks c e) i) ])) ∙ sym w

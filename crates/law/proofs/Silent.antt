@@ -1,24 +1,24 @@
 -- Events that put nothing into the order and add no step to a transaction.
-use mathlib.Core.Path.{_≡_, refl, sym, _∙_, ap, subst}
-use mathlib.Core.Bool.{Bool, true, false, cond, not, _&&_, _||_}
+use mathlib.Core.Path.{_≡_, refl, _∙_, ap, subst}
+use mathlib.Core.Bool.{Bool, true, false, cond, _&&_}
 use mathlib.Core.List.{List, [], _∷_, _++_}
-use Prim.Native.Nat.{ℕ, suc, _≤_, _<_}
+use Prim.Native.Nat.{ℕ}
 use lib.Dec.{eqb}
 use lib.IntN.{ℤ}
 use lib.ListN.{length}
 use Rattle.std.specs.declared.option.Option.{Option}
-use Rattle.std.proofs.shelf.Lists.{append-assoc, append-nil}
+use Rattle.std.proofs.shelf.Lists.{append-nil}
 use Rattle.plant.specs.declared.refusals.Refusal.{Refusal}
 use Rattle.rules.specs.declared.ClientState.{ClientState}
 use Rattle.rules.specs.declared.Lock.{Lock}
 use Rattle.rules.specs.declared.Call.{Call}
 use Rattle.rules.specs.declared.Call.the-variants.{Begin, Lock as Locks, Read as Reads, Change, Commit, WriteBack, End, GiveUp, Clear, Bind, Remove, HardRead, HardWrite}
 use Rattle.rules.specs.declared.Answer.{Answer}
-use Rattle.rules.specs.declared.Answer.the-variants.{Done, Number, WroteBack, Wait, Lost, Refused}
+use Rattle.rules.specs.declared.Answer.the-variants.{Refused}
 use Rattle.law.specs.History.{Event, History}
 use Rattle.law.specs.Record.{Record, record-of}
-use Rattle.law.specs.Order.{Entry, Step, ended, ends-one-of, accessed, accesses, order, begins, own-steps, steps-since}
-use Rattle.law.proofs.Touches.{Touch, Placed, on, trace}
+use Rattle.law.specs.Order.{Step, ended, ends-one-of, accessed, accesses, order, begins, own-steps, steps-since}
+use Rattle.law.proofs.Touches.{Touch, Placed}
 use Rattle.law.proofs.Elements.{Kept}
 use Rattle.law.proofs.OrderLaws.{order-more}
 
@@ -37,9 +37,9 @@ pub record Silent {K : Type 0} (call : Call K) (a : Answer) : Type 0 where
 pub refused-ordinary : {K : Type 0} (call : Call K) (r : Refusal) → Ordinary call (Refused r)
 refused-ordinary (Begin c k) r = record { no-end = λ h. refl; ends-none = λ t q. refl; no-begin = λ d. and-no (eqb (c .0) d) }
   where
-  and-no : (b : Bool) → (b && false) ≡ false
-  and-no true = refl
-  and-no false = refl
+    and-no : (b : Bool) → (b && false) ≡ false
+    and-no true = refl
+    and-no false = refl
 refused-ordinary (Locks c kind e) r = record { no-end = λ h. refl; ends-none = λ t q. refl; no-begin = λ d. refl }
 refused-ordinary (Reads c e) r = record { no-end = λ h. refl; ends-none = λ t q. refl; no-begin = λ d. refl }
 refused-ordinary (Change c e v) r = record { no-end = λ h. refl; ends-none = λ t q. refl; no-begin = λ d. refl }
@@ -114,9 +114,9 @@ module _ {K : Type 0} (x : Event K) (h : History K) (q : Silent (x .call) (x .an
 
 -- What is kept, told of equal things.
 pub kept-as : {start : ℤ} {now : ℕ} {clients : ℕ → ClientState} {begun : ℕ → ℕ} {X X′ A A′ : List Placed} {locks locks′ : ℕ → Option Lock} {own own′ : ℕ → List Touch}
-  {marked marked′ : Bool} {second second′ : Option ℤ} {number number′ : ℤ} →
-  X ≡ X′ → A ≡ A′ → locks ≡ locks′ → own ≡ own′ → marked ≡ marked′ → second ≡ second′ → number ≡ number′ →
-  Kept start now X A clients begun locks own marked second number → Kept start now X′ A′ clients begun locks′ own′ marked′ second′ number′
+    {marked marked′ : Bool} {second second′ : Option ℤ} {number number′ : ℤ} →
+    X ≡ X′ → A ≡ A′ → locks ≡ locks′ → own ≡ own′ → marked ≡ marked′ → second ≡ second′ → number ≡ number′ →
+    Kept start now X A clients begun locks own marked second number → Kept start now X′ A′ clients begun locks′ own′ marked′ second′ number′
 kept-as {start} {now} {clients} {begun} x a l o m s n k =
     subst (λ (z : record { X : List Placed; A : List Placed; locks : ℕ → Option Lock; own : ℕ → List Touch; marked : Bool; second : Option ℤ; number : ℤ }).
     Kept start now (z .X) (z .A) clients begun (z .locks) (z .own) (z .marked) (z .second) (z .number))

@@ -2,14 +2,13 @@
 -- accesses since the element was marked: they stand behind every transaction that holds the element now, and
 -- the front stands behind no open transaction. This file knows nothing of numbers or kinds of locks.
 use mathlib.Core.Path.{_≡_, refl, sym, _∙_, ap, subst}
-use mathlib.Core.Bool.{Bool, true, false, cond, not, _&&_}
+use mathlib.Core.Bool.{Bool, true, false, not}
 use mathlib.Core.List.{List, [], _∷_, _++_}
-use mathlib.Core.Logic.{_⊎_, inl, inr}
-use Prim.Native.Nat.{ℕ, suc, _≤_, _<_}
+use Prim.Native.Nat.{ℕ, suc, _≤_}
 use native.Mathlib.Omega.{arith}
 use Rattle.std.proofs.shelf.Lists.{append-assoc, append-nil}
 use Rattle.law.specs.Order.{those-that}
-use Rattle.law.proofs.Filters.{Each, each-append, each-front, each-back, each-weaker, each-always, each-of-those, those-append, those-none, those-all}
+use Rattle.law.proofs.Filters.{Each, each-append, each-front, each-back, each-weaker, those-append, those-none, those-all}
 use Rattle.law.proofs.Touches.{Placed, Touch, placed, each-placed}
 
 -- It stands behind no open transaction.
@@ -66,59 +65,59 @@ module _ (now : ℕ) (X A : List Placed) (was is : ℕ → Bool) (begun begun′
   trail-stays front early tail t =
       let xs : Each (Settled now) (front ++ tail) = subst (Each (Settled now)) (t .order-is) (t .order-settled) in
       let ys : Each (Settled now) (early ++ tail) = subst (Each (Settled now)) (t .accesses-are) (t .accesses-settled) in
-      record
-      { order-is = t .order-is
-      ; accesses-are = t .accesses-are
-      ; front-quiet = quiet-stays front (t .front-quiet) (each-front (Settled now) front tail xs)
-      ; early-quiet = quiet-stays early (t .early-quiet) (each-front (Settled now) early tail ys)
-      ; tail-follows = follows-stays tail (t .tail-follows) (each-back (Settled now) front tail xs)
-      ; order-settled = later now X (t .order-settled)
-      ; accesses-settled = later now A (t .accesses-settled)
+      record {
+        order-is = t .order-is;
+        accesses-are = t .accesses-are;
+        front-quiet = quiet-stays front (t .front-quiet) (each-front (Settled now) front tail xs);
+        early-quiet = quiet-stays early (t .early-quiet) (each-front (Settled now) early tail ys);
+        tail-follows = follows-stays tail (t .tail-follows) (each-back (Settled now) front tail xs);
+        order-settled = later now X (t .order-settled);
+        accesses-settled = later now A (t .accesses-settled);
       }
 
 -- Where nobody holds the element, its tail is quiet too and goes to the front.
 pub trail-closes : (now : ℕ) (X A front early tail : List Placed) (is : ℕ → Bool) (begun : ℕ → ℕ) (held : ℕ → Bool) →
-  ((c : ℕ) → is c ≡ true → held c ≡ false) → Trail now X A front early tail is begun held → Trail now X A X A [] is begun held
+    ((c : ℕ) → is c ≡ true → held c ≡ false) → Trail now X A front early tail is begun held → Trail now X A X A [] is begun held
 trail-closes now X A front early tail is begun held nobody t =
     let quiet : Each (Quiet is begun) tail = each-weaker (Follows is begun held) (Quiet is begun) tail (λ x f c o. f c o ∙ nobody c o) (t .tail-follows) in
-    record
-    { order-is = sym (append-nil X)
-    ; accesses-are = sym (append-nil A)
-    ; front-quiet = subst (Each (Quiet is begun)) (sym (t .order-is)) (each-append (Quiet is begun) front tail (t .front-quiet) quiet)
-    ; early-quiet = subst (Each (Quiet is begun)) (sym (t .accesses-are)) (each-append (Quiet is begun) early tail (t .early-quiet) quiet)
-    ; tail-follows = tt
-    ; order-settled = t .order-settled
-    ; accesses-settled = t .accesses-settled
+    record {
+      order-is = sym (append-nil X);
+      accesses-are = sym (append-nil A);
+      front-quiet = subst (Each (Quiet is begun)) (sym (t .order-is)) (each-append (Quiet is begun) front tail (t .front-quiet) quiet);
+      early-quiet = subst (Each (Quiet is begun)) (sym (t .accesses-are)) (each-append (Quiet is begun) early tail (t .early-quiet) quiet);
+      tail-follows = tt;
+      order-settled = t .order-settled;
+      accesses-settled = t .accesses-settled;
     }
 
 -- An access that is put behind all, and stands behind the present holders, lengthens the tail.
 pub trail-grows : (now : ℕ) (X A front early tail N : List Placed) (is : ℕ → Bool) (begun : ℕ → ℕ) (held : ℕ → Bool) →
-  Each (Follows is begun held) N → Each (Settled (suc now)) N → Trail now X A front early tail is begun held →
-  Trail (suc now) (X ++ N) (A ++ N) front early (tail ++ N) is begun held
+    Each (Follows is begun held) N → Each (Settled (suc now)) N → Trail now X A front early tail is begun held →
+    Trail (suc now) (X ++ N) (A ++ N) front early (tail ++ N) is begun held
 trail-grows now X A front early tail N is begun held follows settled t =
-    record
-    { order-is = ap (λ xs. xs ++ N) (t .order-is) ∙ append-assoc front tail N
-    ; accesses-are = ap (λ xs. xs ++ N) (t .accesses-are) ∙ append-assoc early tail N
-    ; front-quiet = t .front-quiet
-    ; early-quiet = t .early-quiet
-    ; tail-follows = each-append (Follows is begun held) tail N (t .tail-follows) follows
-    ; order-settled = each-append (Settled (suc now)) X N (later now X (t .order-settled)) settled
-    ; accesses-settled = each-append (Settled (suc now)) A N (later now A (t .accesses-settled)) settled
+    record {
+      order-is = ap (λ xs. xs ++ N) (t .order-is) ∙ append-assoc front tail N;
+      accesses-are = ap (λ xs. xs ++ N) (t .accesses-are) ∙ append-assoc early tail N;
+      front-quiet = t .front-quiet;
+      early-quiet = t .early-quiet;
+      tail-follows = each-append (Follows is begun held) tail N (t .tail-follows) follows;
+      order-settled = each-append (Settled (suc now)) X N (later now X (t .order-settled)) settled;
+      accesses-settled = each-append (Settled (suc now)) A N (later now A (t .accesses-settled)) settled;
     }
 
 -- Where there is no tail, an access that stands behind nothing lengthens the front.
 pub trail-goes-on : (now : ℕ) (X A front early tail N : List Placed) (is : ℕ → Bool) (begun : ℕ → ℕ) (held : ℕ → Bool) →
-  Each (Quiet is begun) N → Each (Settled (suc now)) N → Trail now X A front early tail is begun held → tail ≡ [] →
-  Trail (suc now) (X ++ N) (A ++ N) (front ++ N) (early ++ N) [] is begun held
+    Each (Quiet is begun) N → Each (Settled (suc now)) N → Trail now X A front early tail is begun held → tail ≡ [] →
+    Trail (suc now) (X ++ N) (A ++ N) (front ++ N) (early ++ N) [] is begun held
 trail-goes-on now X A front early tail N is begun held quiet settled t none =
-    record
-    { order-is = ap (λ xs. xs ++ N) (t .order-is ∙ ap (λ xs. front ++ xs) none ∙ append-nil front) ∙ sym (append-nil (front ++ N))
-    ; accesses-are = ap (λ xs. xs ++ N) (t .accesses-are ∙ ap (λ xs. early ++ xs) none ∙ append-nil early) ∙ sym (append-nil (early ++ N))
-    ; front-quiet = each-append (Quiet is begun) front N (t .front-quiet) quiet
-    ; early-quiet = each-append (Quiet is begun) early N (t .early-quiet) quiet
-    ; tail-follows = tt
-    ; order-settled = each-append (Settled (suc now)) X N (later now X (t .order-settled)) settled
-    ; accesses-settled = each-append (Settled (suc now)) A N (later now A (t .accesses-settled)) settled
+    record {
+      order-is = ap (λ xs. xs ++ N) (t .order-is ∙ ap (λ xs. front ++ xs) none ∙ append-nil front) ∙ sym (append-nil (front ++ N));
+      accesses-are = ap (λ xs. xs ++ N) (t .accesses-are ∙ ap (λ xs. early ++ xs) none ∙ append-nil early) ∙ sym (append-nil (early ++ N));
+      front-quiet = each-append (Quiet is begun) front N (t .front-quiet) quiet;
+      early-quiet = each-append (Quiet is begun) early N (t .early-quiet) quiet;
+      tail-follows = tt;
+      order-settled = each-append (Settled (suc now)) X N (later now X (t .order-settled)) settled;
+      accesses-settled = each-append (Settled (suc now)) A N (later now A (t .accesses-settled)) settled;
     }
 
 -- The end of the transaction b of a client that holds the element: the tail moves behind its own touches.
@@ -171,18 +170,18 @@ module _ (now : ℕ) (X A front early tail : List Placed) (is : ℕ → Bool) (b
 
   -- The trail with the transaction's own touches put between front and tail.
   pub trail-ends : (own : List Touch) →
-    Trail now (front ++ (placed (λ b. false) own ++ tail)) A (front ++ placed (λ b. false) own) early tail is begun held
+      Trail now (front ++ (placed (λ b. false) own ++ tail)) A (front ++ placed (λ b. false) own) early tail is begun held
   trail-ends own =
       let free : (P : Placed → Type 0) → ((x : Touch) → P (record { touch = x; behind = λ b. false })) → Each P (placed (λ b. false) own) = λ P f. each-placed P (λ b. false) own f in
       let xs : Each (Settled now) (front ++ tail) = subst (Each (Settled now)) (t .order-is) (t .order-settled) in
-      record
-      { order-is = sym (append-assoc front (placed (λ b. false) own) tail)
-      ; accesses-are = t .accesses-are
-      ; front-quiet = each-append (Quiet is begun) front (placed (λ b. false) own) (t .front-quiet) (free (Quiet is begun) (λ x d o. refl))
-      ; early-quiet = t .early-quiet
-      ; tail-follows = t .tail-follows
-      ; order-settled =
-          each-append (Settled now) front (placed (λ b. false) own ++ tail) (each-front (Settled now) front tail xs)
-          (each-append (Settled now) (placed (λ b. false) own) tail (free (Settled now) (λ x b l. refl)) (each-back (Settled now) front tail xs))
-      ; accesses-settled = t .accesses-settled
+      record {
+        order-is = sym (append-assoc front (placed (λ b. false) own) tail);
+        accesses-are = t .accesses-are;
+        front-quiet = each-append (Quiet is begun) front (placed (λ b. false) own) (t .front-quiet) (free (Quiet is begun) (λ x d o. refl));
+        early-quiet = t .early-quiet;
+        tail-follows = t .tail-follows;
+        order-settled =
+            each-append (Settled now) front (placed (λ b. false) own ++ tail) (each-front (Settled now) front tail xs)
+            (each-append (Settled now) (placed (λ b. false) own) tail (free (Settled now) (λ x b l. refl)) (each-back (Settled now) front tail xs));
+        accesses-settled = t .accesses-settled;
       }

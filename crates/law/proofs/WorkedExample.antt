@@ -1,20 +1,18 @@
 -- The worked history, by computation.
-use mathlib.Core.Path.{_≡_, refl, sym, _∙_, ap}
+use mathlib.Core.Path.{_≡_, refl}
 use mathlib.Core.Bool.{Bool}
-use mathlib.Core.List.{List, [], _∷_, map}
+use mathlib.Core.List.{List, [], _∷_}
 use Prim.Native.Nat.{ℕ}
 use native.Mathlib.Omega.{arith}
-use lib.IntN.{ℤ, pos}
+use lib.IntN.{pos}
 use Rattle.plant.specs.Meaning.{Meaning, number}
-use Rattle.ranks.specs.declared.Grade.{Grade}
 use Rattle.ranks.specs.Kinds.{grade-above}
 use Rattle.rules.specs.Scans.{some-below, count-below, first-below}
 use Rattle.rules.specs.State.{State, opening}
-use Rattle.rules.specs.Calls.{Outcome, answered}
 use Rattle.rules.specs.Step.{step}
 use Rattle.rules.specs.Trials.{three-hundreds}
 use Rattle.rules.specs.declared.Answer.{Answer}
-use Rattle.law.specs.History.{Event, History, Leads}
+use Rattle.law.specs.History.{History, Leads}
 use Rattle.law.specs.Play.{Right, all-steps}
 use Rattle.law.specs.Worked.{worked, undisplaced, Worked-example}
 
@@ -54,11 +52,11 @@ never-equal z = let y : _≡_ {A = ℕ} 800 510 = cc in omega arith
 pub worked-example : Worked-example
 unfolding some-below count-below first-below
 worked-example =
-    record
-    { final = state-after grade-above three-hundreds worked
-    ; leads = leads-there grade-above three-hundreds worked same-answers
-    ; in-order = refl
-    ; steps = refl
-    ; by-moments = refl
-    ; not-right = λ r. never-equal (wrong-read r)
+    record {
+      final = state-after grade-above three-hundreds worked;
+      leads = leads-there grade-above three-hundreds worked same-answers;
+      in-order = refl;
+      steps = refl;
+      by-moments = refl;
+      not-right = λ r. never-equal (wrong-read r);
     }

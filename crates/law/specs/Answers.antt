@@ -18,7 +18,7 @@ use Rattle.rules.specs.declared.Call.{Call}
 use Rattle.rules.specs.declared.Call.the-variants.{Begin, Lock, Read as Reads, Change, Commit, WriteBack, End, GiveUp, Clear, Bind, Remove, HardRead, HardWrite}
 use Rattle.rules.specs.declared.Answer.{Answer}
 use Rattle.rules.specs.declared.Answer.the-variants.{Done, Number}
-use Rattle.law.specs.History.{Event, History, Leads, accepted}
+use Rattle.law.specs.History.{History, Leads, accepted}
 use Rattle.law.specs.Record.{Record, record-of, kind-writes}
 use Rattle.law.specs.Order.{Step, steps-since, order}
 use Rattle.law.specs.Play.{all-steps}

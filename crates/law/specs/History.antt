@@ -2,8 +2,6 @@
 use mathlib.Core.Path.{_≡_}
 use mathlib.Core.Bool.{Bool, true, false}
 use mathlib.Core.List.{List, [], _∷_}
-use Prim.Native.Nat.{ℕ}
-use lib.ListN.{length}
 use Rattle.plant.specs.Meaning.{Meaning}
 use Rattle.rules.specs.State.{State, opening}
 use Rattle.rules.specs.Calls.{answered}

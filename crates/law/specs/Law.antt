@@ -12,8 +12,7 @@ use Rattle.ranks.specs.declared.Client.{Client}
 use Rattle.plant.specs.declared.tables.Element.{Element}
 use Rattle.rules.specs.State.{State, shows}
 use Rattle.rules.specs.Step.{ranks-after}
-use Rattle.rules.specs.declared.ClientState.{ClientState}
-use Rattle.rules.specs.declared.ClientState.the-variants.{Idle, Executing, Committing, ThrownOut}
+use Rattle.rules.specs.declared.ClientState.the-variants.{Committing, ThrownOut}
 use Rattle.rules.specs.declared.LockKind.{LockKind}
 use Rattle.rules.specs.declared.Call.{Call}
 use Rattle.rules.specs.declared.Call.the-variants.{Begin, Lock, Read as Reads, Change, Commit, WriteBack, End, GiveUp, Clear, Bind, Remove, HardRead, HardWrite}
@@ -93,7 +92,7 @@ pub record Committing-holder (r : Record) (c : ℕ) (e : ℕ) : Type 0 where
 pub record Goes-on {K : Type 0} (x : Event K) (before after : Record) (c : ℕ) : Type 0 where
   pub not-thrown-out : after .clients c ≡ ThrownOut → ⊥
   pub waits-only : (caller : Client) (kind : LockKind) (e : Element) →
-    x .call ≡ Lock caller kind e → caller .0 ≡ c → x .answer ≡ Wait → Committing-holder before c (e .0)
+      x .call ≡ Lock caller kind e → caller .0 ≡ c → x .answer ≡ Wait → Committing-holder before c (e .0)
 
 -- At every moment of the run, whichever client was the highest went on.
 abbrev pub Highest-goes-on : {K : Type 0} → (K → K → Bool) → List K → History K → Type 0

@@ -1,5 +1,5 @@
 -- The one order of the ended transactions and the accepted hard accesses, by the rule of place.
-use mathlib.Core.Bool.{Bool, true, false, cond, not, _&&_}
+use mathlib.Core.Bool.{Bool, false, cond, _&&_}
 use mathlib.Core.List.{List, [], _∷_, _++_}
 use Prim.Native.Nat.{ℕ}
 use lib.Dec.{eqb, ltb}
@@ -14,8 +14,8 @@ use Rattle.rules.specs.declared.Call.{Call}
 use Rattle.rules.specs.declared.Call.the-variants.{Begin, Lock, Read as Reads, Change, Commit, WriteBack, End, GiveUp, Clear, Bind, Remove, HardRead, HardWrite}
 use Rattle.rules.specs.declared.Answer.{Answer}
 use Rattle.rules.specs.declared.Answer.the-variants.{Done, Number, WroteBack, Wait, Lost, Refused}
-use Rattle.law.specs.History.{Event, History, accepted, is-done}
-use Rattle.law.specs.Record.{Record, record-of, holding, is-locked}
+use Rattle.law.specs.History.{History, accepted, is-done}
+use Rattle.law.specs.Record.{Record, record-of, holding}
 
 -- A step of the play: an element is read, with the number that was answered, or set.
 pub data Step : Type 0 where

@@ -1,7 +1,7 @@
 -- The record of a history: who is in which state and holds what, what is marked, which pointer is tied
 -- where. It is kept by calls and answers alone: it knows no numbers, no working copies and no ranks.
 use mathlib.Core.Bool.{Bool, true, false, cond, not, _&&_, _||_}
-use mathlib.Core.List.{List, [], _∷_}
+use mathlib.Core.List.{[], _∷_}
 use Prim.Native.Nat.{ℕ}
 use lib.Dec.{eqb}
 use lib.ListN.{length}
@@ -19,7 +19,7 @@ use Rattle.rules.specs.declared.LockKind.the-variants.{Read, Write}
 use Rattle.rules.specs.declared.Call.{Call}
 use Rattle.rules.specs.declared.Call.the-variants.{Begin, Lock, Read as Reads, Change, Commit, WriteBack, End, GiveUp, Clear, Bind, Remove, HardRead, HardWrite}
 use Rattle.rules.specs.declared.Answer.{Answer}
-use Rattle.law.specs.History.{Event, History, is-done, is-lost}
+use Rattle.law.specs.History.{History, is-done, is-lost}
 
 -- A transaction is named by the moment of its begin: that of a client's latest one stands in begun.
 pub record Record : Type 0 where
@@ -79,12 +79,12 @@ begins-at moment c r =
 -- The clients of a set are gone: they come into one state and hold nothing.
 abbrev pub gone : (ℕ → Bool) → ClientState → Record → Record
 gone those after r =
-    record
-    { clients = λ d. cond (those d) after (r .clients d)
-    ; begun = r .begun
-    ; kinds = λ d e. cond (those d) None (r .kinds d e)
-    ; marked = r .marked
-    ; ties = r .ties
+    record {
+      clients = λ d. cond (those d) after (r .clients d);
+      begun = r .begun;
+      kinds = λ d e. cond (those d) None (r .kinds d e);
+      marked = r .marked;
+      ties = r .ties;
     }
 
 -- A mark goes with a new lock if nobody else then holds the element; a reader that gains the write lock
@@ -95,12 +95,12 @@ mark-kept r c e (Some held) = r .marked e
 
 abbrev pub gains : ℕ → LockKind → ℕ → Record → Record
 gains c kind e r =
-    record
-    { clients = r .clients
-    ; begun = r .begun
-    ; kinds = at r.kinds c (at (r .kinds c) e (Some kind))
-    ; marked = at r.marked e (mark-kept r c e (r .kinds c e))
-    ; ties = r .ties
+    record {
+      clients = r .clients;
+      begun = r .begun;
+      kinds = at r.kinds c (at (r .kinds c) e (Some kind));
+      marked = at r.marked e (mark-kept r c e (r .kinds c e));
+      ties = r .ties;
     }
 
 -- A granted lock.

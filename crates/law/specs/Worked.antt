@@ -1,12 +1,11 @@
 -- A worked history: two transactions that end, one that is thrown out, a hard write between two write-backs and
 -- a hard read behind it, both of which move behind the end; and the order that it has.
 use mathlib.Core.Path.{_≡_}
-use mathlib.Core.Bool.{Bool}
-use mathlib.Core.List.{List, [], _∷_, _++_, map, reverse}
+use mathlib.Core.List.{List, [], _∷_, map, reverse}
 use Prim.Native.Nat.{ℕ}
-use lib.IntN.{ℤ, pos, negsuc}
+use lib.IntN.{pos}
 use lib.ListN.{replicate}
-use Rattle.plant.specs.Meaning.{Meaning, number}
+use Rattle.plant.specs.Meaning.{number}
 use Rattle.plant.specs.declared.refusals.Refusal.the-variants.{ThrownOut}
 use Rattle.ranks.specs.declared.Grade.{Grade}
 use Rattle.ranks.specs.Kinds.{grade-above}
@@ -19,7 +18,7 @@ use Rattle.rules.specs.declared.Call.the-variants.{Bind, HardRead, HardWrite}
 use Rattle.rules.specs.declared.Answer.{Answer}
 use Rattle.rules.specs.declared.Answer.the-variants.{Done, Number, Refused}
 use Rattle.law.specs.History.{Event, History, Leads}
-use Rattle.law.specs.Order.{Entry, Step, reads, sets, accesses, walk, order}
+use Rattle.law.specs.Order.{Entry, reads, sets, accesses, walk, order}
 use Rattle.law.specs.Play.{Right, all-steps}
 
 abbrev pointer : ℕ → Pointer
@@ -77,7 +76,7 @@ pub record Worked-example : Type 0 where
   pub leads : Leads grade-above three-hundreds worked final
   pub in-order : map (λ (a : Entry). a .moment) (order worked) ≡ 10 ∷ 16 ∷ 17 ∷ 13 ∷ 15 ∷ 26 ∷ 27 ∷ []
   pub steps : all-steps (order worked) ≡
-    reads 0 (pos 100) ∷ reads 0 (pos 100) ∷ sets 0 (pos 700) ∷ sets 1 (pos 800) ∷ sets 1 (pos 510) ∷ reads 1 (pos 510) ∷
-    reads 0 (pos 700) ∷ reads 1 (pos 510) ∷ sets 1 (pos 600) ∷ reads 1 (pos 600) ∷ []
+      reads 0 (pos 100) ∷ reads 0 (pos 100) ∷ sets 0 (pos 700) ∷ sets 1 (pos 800) ∷ sets 1 (pos 510) ∷ reads 1 (pos 510) ∷
+      reads 0 (pos 700) ∷ reads 1 (pos 510) ∷ sets 1 (pos 600) ∷ reads 1 (pos 600) ∷ []
   pub by-moments : map (λ (a : Entry). a .moment) (undisplaced worked) ≡ 10 ∷ 13 ∷ 15 ∷ 16 ∷ 17 ∷ 26 ∷ 27 ∷ []
   pub not-right : Right (number three-hundreds) (all-steps (undisplaced worked)) → ⊥

@@ -36,6 +36,6 @@ stands-above above ranks c d = found-stands above (nth ranks c) c (nth ranks d) 
 pub record Decides {K : Type 0} (above : K → K → Bool) : Type 0 where
   pub asymmetric : (ranks : List K) (c d : ℕ) → stands-above above ranks c d ≡ true → stands-above above ranks d c ≡ false
   pub passed-on : (ranks : List K) (c d e : ℕ) →
-    stands-above above ranks c d ≡ true → stands-above above ranks d e ≡ true → stands-above above ranks c e ≡ true
+      stands-above above ranks c d ≡ true → stands-above above ranks d e ≡ true → stands-above above ranks c e ≡ true
   pub total : (ranks : List K) (c d : ℕ) (a b : K) → nth ranks c ≡ Some a → nth ranks d ≡ Some b → (c ≡ d → ⊥) →
-    (stands-above above ranks c d ≡ true) ⊎ (stands-above above ranks d c ≡ true)
+      (stands-above above ranks c d ≡ true) ⊎ (stands-above above ranks d c ≡ true)

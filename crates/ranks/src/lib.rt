@@ -67,5 +67,4 @@ pub fn stands_above<K: Rank>(ranks: &[K], client: Client, other: Client) -> bool
 // Standing above is an order that decides between any two clients, for every kind of rank.
 pub fn standing_decides<K: Rank>()
     ensures { λ _. ⌜ Decides (K·Rank .above) ⌝ }
-{
-}
+{}

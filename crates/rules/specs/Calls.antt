@@ -17,13 +17,12 @@ use Rattle.plant.specs.declared.tables.Element.{Element}
 use Rattle.ranks.specs.Standing.{stands-above}
 use Rattle.rules.specs.Scans.{at, some-below, first-below}
 use Rattle.rules.specs.States.{met}
-use Rattle.rules.specs.State.{State, for-writing, holds, locked, is-committing, shows}
+use Rattle.rules.specs.State.{State, for-writing, locked, is-committing}
 use Rattle.rules.specs.Locking.{conflicts, covers, lock-count, leave, gain}
 use Rattle.rules.specs.declared.ClientState.{ClientState}
 use Rattle.rules.specs.declared.ClientState.the-variants.{ThrownOut}
 use Rattle.rules.specs.declared.LockKind.{LockKind}
 use Rattle.rules.specs.declared.Lock.{Lock}
-use Rattle.rules.specs.declared.Fate.{Fate}
 use Rattle.rules.specs.declared.Fate.the-variants.{Written, Dropped}
 use Rattle.rules.specs.declared.Move.{Move}
 use Rattle.rules.specs.declared.Move.the-variants.{Begin, Lock as Locks, Read, Change, Commit, GiveUp, WriteBack, End, Clear}
@@ -200,13 +199,13 @@ hard-read-call s p = as-pointer s p (λ e. answered s (shown-answer (s .second e
 -- becomes that number.
 abbrev pub hard-written : State → ℕ → ℤ → State
 hard-written s e v =
-    record
-    { table = put-meaning (s .table) e v
-    ; clients = s .clients
-    ; locks = s .locks
-    ; marked = at s.marked e (s .marked e || locked s e)
-    ; second = at s.second e (mapped (λ old. v) (s .second e))
-    ; ties = s .ties
+    record {
+      table = put-meaning (s .table) e v;
+      clients = s .clients;
+      locks = s .locks;
+      marked = at s.marked e (s .marked e || locked s e);
+      second = at s.second e (mapped (λ old. v) (s .second e));
+      ties = s .ties;
     }
 
 abbrev pub put-outcome : Result (Unit {0}) Refusal → State → ℕ → ℤ → Outcome

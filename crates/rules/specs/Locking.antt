@@ -4,10 +4,9 @@ use Prim.Native.Nat.{ℕ}
 use lib.Dec.{eqb}
 use Rattle.std.specs.declared.option.Option.{Option}
 use Rattle.std.specs.declared.option.Option.the-variants.{Some, None}
-use Rattle.std.specs.Options.{isSome}
 use Rattle.plant.specs.Meaning.{number}
 use Rattle.rules.specs.Scans.{at, some-below, count-below}
-use Rattle.rules.specs.State.{State, is-write, for-writing, holds, holds-for-writing, is-committing}
+use Rattle.rules.specs.State.{State, is-write, holds, holds-for-writing}
 use Rattle.rules.specs.declared.ClientState.{ClientState}
 use Rattle.rules.specs.declared.LockKind.{LockKind}
 use Rattle.rules.specs.declared.LockKind.the-variants.{Read, Write}
@@ -41,13 +40,13 @@ lock-count s c = count-below 256 (λ e. holds s c e)
 -- versions of what they held for writing go too. The table and the marks are left.
 abbrev pub leave : (ℕ → Bool) → ClientState → State → State
 leave those after s =
-    record
-    { table = s .table
-    ; clients = λ d. cond (those d) after (s .clients d)
-    ; locks = λ d e. cond (those d) None (s .locks d e)
-    ; marked = s .marked
-    ; second = λ e. cond (some-below 16 (λ d. those d && holds-for-writing s d e)) None (s .second e)
-    ; ties = s .ties
+    record {
+      table = s .table;
+      clients = λ d. cond (those d) after (s .clients d);
+      locks = λ d e. cond (those d) None (s .locks d e);
+      marked = s .marked;
+      second = λ e. cond (some-below 16 (λ d. those d && holds-for-writing s d e)) None (s .second e);
+      ties = s .ties;
     }
 
 -- The lock that a client has after a grant: a new one takes the table's number as its working copy; a
@@ -65,11 +64,11 @@ mark-after s c e (Some l) = s .marked e
 -- The client gains the lock. For writing, the element also takes the table's number as its second version.
 abbrev pub gain : ℕ → LockKind → ℕ → State → State
 gain c kind e s =
-    record
-    { table = s .table
-    ; clients = s .clients
-    ; locks = at s.locks c (at (s .locks c) e (Some (granted-lock s kind e (s .locks c e))))
-    ; marked = at s.marked e (mark-after s c e (s .locks c e))
-    ; second = cond (is-write kind) (at s.second e (Some (number (s .table) e))) (s .second)
-    ; ties = s .ties
+    record {
+      table = s .table;
+      clients = s .clients;
+      locks = at s.locks c (at (s .locks c) e (Some (granted-lock s kind e (s .locks c e))));
+      marked = at s.marked e (mark-after s c e (s .locks c e));
+      second = cond (is-write kind) (at s.second e (Some (number (s .table) e))) (s .second);
+      ties = s .ties;
     }

@@ -1,13 +1,12 @@
 -- The trials: what the rules must answer on worked examples. Each starts with three elements of 100, with
 -- pointer 0 tied to element 0, and with grades.
 use mathlib.Core.Path.{_≡_}
-use mathlib.Core.Bool.{Bool}
 use mathlib.Core.List.{List, [], _∷_, map}
 use Prim.Native.Nat.{ℕ}
 use lib.IntN.{ℤ, pos, negsuc}
 use lib.ListN.{replicate}
 use Rattle.plant.specs.Meaning.{Meaning}
-use Rattle.plant.specs.declared.refusals.Refusal.the-variants.{ThrownOut, NoWriteBackLeft, WriteBacksLeft}
+use Rattle.plant.specs.declared.refusals.Refusal.the-variants.{ThrownOut, NoWriteBackLeft}
 use Rattle.plant.specs.declared.tables.Element.{Element}
 use Rattle.ranks.specs.declared.Client.{Client}
 use Rattle.ranks.specs.declared.Grade.{Grade}
@@ -15,11 +14,10 @@ use Rattle.ranks.specs.Kinds.{grade-above}
 use Rattle.rules.specs.State.{State, opening}
 use Rattle.rules.specs.Calls.{Outcome}
 use Rattle.rules.specs.Step.{step, ranks-after}
-use Rattle.rules.specs.declared.Pointer.{Pointer}
 use Rattle.rules.specs.declared.LockKind.the-variants.{Read, Write}
 use Rattle.rules.specs.declared.Fate.the-variants.{Written, Dropped}
 use Rattle.rules.specs.declared.Call.{Call}
-use Rattle.rules.specs.declared.Call.the-variants.{Begin, Lock, Read as Reads, Change, Commit, WriteBack, End, GiveUp, Clear, Bind, HardRead, HardWrite}
+use Rattle.rules.specs.declared.Call.the-variants.{Begin, Lock, Read as Reads, Change, Commit, WriteBack, End, Bind, HardRead, HardWrite}
 use Rattle.rules.specs.declared.Answer.{Answer}
 use Rattle.rules.specs.declared.Answer.the-variants.{Done, Number, WroteBack, Wait, Lost, Refused}
 
@@ -115,114 +113,114 @@ expected t = record { answers = Done ∷ map (λ (x : Expected). x .answer) (t .
 -- A hard read shows the old number until the end, then the new one.
 abbrev pub old-until-end : Trial
 old-until-end =
-    record
-    { calls =
-        (begin 1 5 ⇒ Done) ∷ (write-lock 1 0 ⇒ Done) ∷ (change 1 0 130 ⇒ Done) ∷ (hard-read ⇒ number 100) ∷
-        (commit 1 ⇒ Done) ∷ (hard-read ⇒ number 100) ∷ (write-back 1 ⇒ written 0) ∷ (hard-read ⇒ number 100) ∷
-        (end 1 ⇒ Done) ∷ (hard-read ⇒ number 130) ∷ []
-    ; numbers = pos 130 ∷ pos 100 ∷ pos 100 ∷ []
+    record {
+      calls =
+          (begin 1 5 ⇒ Done) ∷ (write-lock 1 0 ⇒ Done) ∷ (change 1 0 130 ⇒ Done) ∷ (hard-read ⇒ number 100) ∷
+          (commit 1 ⇒ Done) ∷ (hard-read ⇒ number 100) ∷ (write-back 1 ⇒ written 0) ∷ (hard-read ⇒ number 100) ∷
+          (end 1 ⇒ Done) ∷ (hard-read ⇒ number 130) ∷ [];
+      numbers = pos 130 ∷ pos 100 ∷ pos 100 ∷ [];
     }
 
 -- A hard write during the committing step counts as the later one: the write back is dropped.
 abbrev pub later-hard-write : Trial
 later-hard-write =
-    record
-    { calls =
-        (begin 1 5 ⇒ Done) ∷ (write-lock 1 0 ⇒ Done) ∷ (change 1 0 130 ⇒ Done) ∷ (commit 1 ⇒ Done) ∷
-        (hard-write 90 ⇒ Done) ∷ (write-back 1 ⇒ dropped 0) ∷ (end 1 ⇒ Done) ∷ (hard-read ⇒ number 90) ∷ []
-    ; numbers = pos 90 ∷ pos 100 ∷ pos 100 ∷ []
+    record {
+      calls =
+          (begin 1 5 ⇒ Done) ∷ (write-lock 1 0 ⇒ Done) ∷ (change 1 0 130 ⇒ Done) ∷ (commit 1 ⇒ Done) ∷
+          (hard-write 90 ⇒ Done) ∷ (write-back 1 ⇒ dropped 0) ∷ (end 1 ⇒ Done) ∷ (hard-read ⇒ number 90) ∷ [];
+      numbers = pos 90 ∷ pos 100 ∷ pos 100 ∷ [];
     }
 
 -- Across a mark a read lock is not shared: the lower rank loses.
 abbrev pub lower-loses-across-mark : Trial
 lower-loses-across-mark =
-    record
-    { calls =
-        (begin 1 5 ⇒ Done) ∷ (read-lock 1 0 ⇒ Done) ∷ (read 1 0 ⇒ number 100) ∷ (hard-write 90 ⇒ Done) ∷
-        (begin 2 4 ⇒ Done) ∷ (read-lock 2 0 ⇒ Lost) ∷ (read 1 0 ⇒ number 100) ∷ (read 2 0 ⇒ Refused ThrownOut) ∷ []
-    ; numbers = pos 90 ∷ pos 100 ∷ pos 100 ∷ []
+    record {
+      calls =
+          (begin 1 5 ⇒ Done) ∷ (read-lock 1 0 ⇒ Done) ∷ (read 1 0 ⇒ number 100) ∷ (hard-write 90 ⇒ Done) ∷
+          (begin 2 4 ⇒ Done) ∷ (read-lock 2 0 ⇒ Lost) ∷ (read 1 0 ⇒ number 100) ∷ (read 2 0 ⇒ Refused ThrownOut) ∷ [];
+      numbers = pos 90 ∷ pos 100 ∷ pos 100 ∷ [];
     }
 
 -- The higher rank throws the first reader out and reads the number of the hard write.
 abbrev pub higher-wins-across-mark : Trial
 higher-wins-across-mark =
-    record
-    { calls =
-        (begin 1 5 ⇒ Done) ∷ (read-lock 1 0 ⇒ Done) ∷ (read 1 0 ⇒ number 100) ∷ (hard-write 90 ⇒ Done) ∷
-        (begin 2 6 ⇒ Done) ∷ (read-lock 2 0 ⇒ Done) ∷ (read 1 0 ⇒ Refused ThrownOut) ∷ (read 2 0 ⇒ number 90) ∷ []
-    ; numbers = pos 90 ∷ pos 100 ∷ pos 100 ∷ []
+    record {
+      calls =
+          (begin 1 5 ⇒ Done) ∷ (read-lock 1 0 ⇒ Done) ∷ (read 1 0 ⇒ number 100) ∷ (hard-write 90 ⇒ Done) ∷
+          (begin 2 6 ⇒ Done) ∷ (read-lock 2 0 ⇒ Done) ∷ (read 1 0 ⇒ Refused ThrownOut) ∷ (read 2 0 ⇒ number 90) ∷ [];
+      numbers = pos 90 ∷ pos 100 ∷ pos 100 ∷ [];
     }
 
 -- Without the hard write both read, whatever the ranks.
 abbrev pub readers-share : ℕ → Trial
 readers-share grade =
-    record
-    { calls =
-        (begin 1 5 ⇒ Done) ∷ (read-lock 1 0 ⇒ Done) ∷ (read 1 0 ⇒ number 100) ∷ (begin 2 grade ⇒ Done) ∷
-        (read-lock 2 0 ⇒ Done) ∷ (read 1 0 ⇒ number 100) ∷ (read 2 0 ⇒ number 100) ∷ []
-    ; numbers = pos 100 ∷ pos 100 ∷ pos 100 ∷ []
+    record {
+      calls =
+          (begin 1 5 ⇒ Done) ∷ (read-lock 1 0 ⇒ Done) ∷ (read 1 0 ⇒ number 100) ∷ (begin 2 grade ⇒ Done) ∷
+          (read-lock 2 0 ⇒ Done) ∷ (read 1 0 ⇒ number 100) ∷ (read 2 0 ⇒ number 100) ∷ [];
+      numbers = pos 100 ∷ pos 100 ∷ pos 100 ∷ [];
     }
 
 -- A reader that gains the write lock keeps its copy and the mark, so that its change is dropped.
 abbrev pub upgrade-keeps-mark : Trial
 upgrade-keeps-mark =
-    record
-    { calls =
-        (begin 1 5 ⇒ Done) ∷ (read-lock 1 0 ⇒ Done) ∷ (hard-write 90 ⇒ Done) ∷ (write-lock 1 0 ⇒ Done) ∷
-        (read 1 0 ⇒ number 100) ∷ (change 1 0 130 ⇒ Done) ∷ (commit 1 ⇒ Done) ∷ (write-back 1 ⇒ dropped 0) ∷
-        (end 1 ⇒ Done) ∷ (hard-read ⇒ number 90) ∷ []
-    ; numbers = pos 90 ∷ pos 100 ∷ pos 100 ∷ []
+    record {
+      calls =
+          (begin 1 5 ⇒ Done) ∷ (read-lock 1 0 ⇒ Done) ∷ (hard-write 90 ⇒ Done) ∷ (write-lock 1 0 ⇒ Done) ∷
+          (read 1 0 ⇒ number 100) ∷ (change 1 0 130 ⇒ Done) ∷ (commit 1 ⇒ Done) ∷ (write-back 1 ⇒ dropped 0) ∷
+          (end 1 ⇒ Done) ∷ (hard-read ⇒ number 90) ∷ [];
+      numbers = pos 90 ∷ pos 100 ∷ pos 100 ∷ [];
     }
 
 -- At equal grades the lower client number stands above.
 abbrev pub equal-grades : Trial
 equal-grades =
-    record
-    { calls =
-        (begin 0 5 ⇒ Done) ∷ (begin 1 5 ⇒ Done) ∷ (begin 2 5 ⇒ Done) ∷ (write-lock 1 0 ⇒ Done) ∷
-        (write-lock 2 0 ⇒ Lost) ∷ (write-lock 0 0 ⇒ Done) ∷ (read 1 0 ⇒ Refused ThrownOut) ∷ []
-    ; numbers = pos 100 ∷ pos 100 ∷ pos 100 ∷ []
+    record {
+      calls =
+          (begin 0 5 ⇒ Done) ∷ (begin 1 5 ⇒ Done) ∷ (begin 2 5 ⇒ Done) ∷ (write-lock 1 0 ⇒ Done) ∷
+          (write-lock 2 0 ⇒ Lost) ∷ (write-lock 0 0 ⇒ Done) ∷ (read 1 0 ⇒ Refused ThrownOut) ∷ [];
+      numbers = pos 100 ∷ pos 100 ∷ pos 100 ∷ [];
     }
 
 -- Against a committing holder the higher rank waits.
 abbrev pub higher-waits : Trial
 higher-waits =
-    record
-    { calls =
-        (begin 1 1 ⇒ Done) ∷ (write-lock 1 0 ⇒ Done) ∷ (change 1 0 130 ⇒ Done) ∷ (commit 1 ⇒ Done) ∷
-        (begin 2 9 ⇒ Done) ∷ (write-lock 2 0 ⇒ Wait) ∷ (write-back 1 ⇒ written 0) ∷ (end 1 ⇒ Done) ∷
-        (write-lock 2 0 ⇒ Done) ∷ (read 2 0 ⇒ number 130) ∷ []
-    ; numbers = pos 130 ∷ pos 100 ∷ pos 100 ∷ []
+    record {
+      calls =
+          (begin 1 1 ⇒ Done) ∷ (write-lock 1 0 ⇒ Done) ∷ (change 1 0 130 ⇒ Done) ∷ (commit 1 ⇒ Done) ∷
+          (begin 2 9 ⇒ Done) ∷ (write-lock 2 0 ⇒ Wait) ∷ (write-back 1 ⇒ written 0) ∷ (end 1 ⇒ Done) ∷
+          (write-lock 2 0 ⇒ Done) ∷ (read 2 0 ⇒ number 130) ∷ [];
+      numbers = pos 130 ∷ pos 100 ∷ pos 100 ∷ [];
     }
 
 -- Against a committing holder the lower rank loses.
 abbrev pub lower-loses : Trial
 lower-loses =
-    record
-    { calls =
-        (begin 1 9 ⇒ Done) ∷ (write-lock 1 0 ⇒ Done) ∷ (commit 1 ⇒ Done) ∷ (begin 2 1 ⇒ Done) ∷ (write-lock 2 0 ⇒ Lost) ∷
-        []
-    ; numbers = pos 100 ∷ pos 100 ∷ pos 100 ∷ []
+    record {
+      calls =
+          (begin 1 9 ⇒ Done) ∷ (write-lock 1 0 ⇒ Done) ∷ (commit 1 ⇒ Done) ∷ (begin 2 1 ⇒ Done) ∷ (write-lock 2 0 ⇒ Lost) ∷
+          [];
+      numbers = pos 100 ∷ pos 100 ∷ pos 100 ∷ [];
     }
 
 -- With nothing changed there is nothing to write back, and the end is accepted.
 abbrev pub nothing-changed : Trial
 nothing-changed =
-    record
-    { calls =
-        (begin 1 5 ⇒ Done) ∷ (write-lock 1 0 ⇒ Done) ∷ (commit 1 ⇒ Done) ∷ (write-back 1 ⇒ Refused NoWriteBackLeft) ∷
-        (end 1 ⇒ Done) ∷ []
-    ; numbers = pos 100 ∷ pos 100 ∷ pos 100 ∷ []
+    record {
+      calls =
+          (begin 1 5 ⇒ Done) ∷ (write-lock 1 0 ⇒ Done) ∷ (commit 1 ⇒ Done) ∷ (write-back 1 ⇒ Refused NoWriteBackLeft) ∷
+          (end 1 ⇒ Done) ∷ [];
+      numbers = pos 100 ∷ pos 100 ∷ pos 100 ∷ [];
     }
 
 -- Of several holders one stands above the caller: it loses, and no other holder has been thrown out.
 abbrev pub nobody-thrown-out-by-a-loser : Trial
 nobody-thrown-out-by-a-loser =
-    record
-    { calls =
-        (begin 1 3 ⇒ Done) ∷ (begin 2 9 ⇒ Done) ∷ (begin 3 5 ⇒ Done) ∷ (read-lock 1 0 ⇒ Done) ∷ (read-lock 2 0 ⇒ Done) ∷
-        (write-lock 3 0 ⇒ Lost) ∷ (read 1 0 ⇒ number 100) ∷ (read 2 0 ⇒ number 100) ∷ (read 3 0 ⇒ Refused ThrownOut) ∷ []
-    ; numbers = pos 100 ∷ pos 100 ∷ pos 100 ∷ []
+    record {
+      calls =
+          (begin 1 3 ⇒ Done) ∷ (begin 2 9 ⇒ Done) ∷ (begin 3 5 ⇒ Done) ∷ (read-lock 1 0 ⇒ Done) ∷ (read-lock 2 0 ⇒ Done) ∷
+          (write-lock 3 0 ⇒ Lost) ∷ (read 1 0 ⇒ number 100) ∷ (read 2 0 ⇒ number 100) ∷ (read 3 0 ⇒ Refused ThrownOut) ∷ [];
+      numbers = pos 100 ∷ pos 100 ∷ pos 100 ∷ [];
     }
 
 -- All of them.

@@ -92,11 +92,9 @@ pub enum Answer {
 // Every trial of the protocol comes out as expected of it.
 pub fn trials_hold()
     ensures { λ _. ⌜ Trials-hold ⌝ }
-{
-}
+{}
 
 // Every call, in every state and with every rank list, goes one of the listed ways.
 pub fn every_step_has_an_effect<K: Rank>()
     ensures { λ _. ⌜ Every-step-has-an-effect (K·Rank .above) ⌝ }
-{
-}
+{}

@@ -14,8 +14,8 @@ use Rattle.ranks.specs.Standing.{stands-above}
 use Rattle.ranks.proofs.stands_above.Needs as need
 
 found : {K : Type 0} (above : K → K → Bool) (ranks : List K) (c d : ℕ) (a b : K) (x y : Bool) →
-  nth ranks c ≡ Some a → nth ranks d ≡ Some b → x ≡ above a b → y ≡ above b a →
-  (x || (not y && ltb c d)) ≡ stands-above above ranks c d
+    nth ranks c ≡ Some a → nth ranks d ≡ Some b → x ≡ above a b → y ≡ above b a →
+    (x || (not y && ltb c d)) ≡ stands-above above ranks c d
 found above ranks c d a b x y p q r s = cc
 
 read : {K : Type 0} (ranks : List K) (c : ℕ) (a : K) → c < length ranks → a ≡ getD ranks c a → nth ranks c ≡ Some a
