@@ -8,6 +8,6 @@ use Rattle.ranks.specs.declared.Due.{Due}
 abbrev pub grade-above : Grade → Grade → Bool
 grade-above a b = ltb (b .0) (a .0)
 
--- The earlier minute is above; at equal minutes the larger weight is.
+-- Whoever is due earlier is above; of two due at the same minute, the one with the larger weight.
 abbrev pub due-above : Due → Due → Bool
 due-above a b = ltb (a .minute) (b .minute) || (eqb (a .minute) (b .minute) && ltb (b .weight) (a .weight))

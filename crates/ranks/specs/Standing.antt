@@ -16,8 +16,8 @@ pub record Order {K : Type 0} (above : K → K → Bool) : Type 0 where
   pub transitive : (a b c : K) → above a b ≡ true → above b c ≡ true → above a c ≡ true
   pub even : (a b c : K) → above a b ≡ false → above b a ≡ false → (above a c ≡ above b c) × (above c a ≡ above c b)
 
--- A client c with the rank a stands above a client d with the rank b if its rank is above, or if neither
--- rank is above the other and its client number is lower.
+-- A client c with the rank a stands above a client d with the rank b if a is above b. Where neither of the
+-- two ranks is above the other, the lower client number decides.
 abbrev pub stands : {K : Type 0} → (K → K → Bool) → K → ℕ → K → ℕ → Bool
 stands above a c b d = above a b || (not (above b a) && ltb c d)
 

@@ -35,7 +35,7 @@ pub impl Rank for Grade as GradeRank {
     }
 }
 
-// When a batch is due: the earlier minute is above, at equal minutes the larger weight.
+// When a batch is due: the earlier is above, and within a minute the larger weight.
 #[derive(Clone, Copy, PartialEq, Eq, Debug)]
 pub struct Due {
     pub minute: u16,

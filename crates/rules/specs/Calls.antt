@@ -72,8 +72,8 @@ begin-call s entries c =
     (by-state (met (s .clients c) Begin) s (λ after. answered (with-client s c after) Done)))
 
 -- The four steps of a lock that is not refused before them. One: the client's own lock covers the request.
--- Two: a conflicting holder stands above. Three: a conflicting holder is committing. Four: all conflicting
--- holders are thrown out and the lock is granted. Before the second step a 33rd lock is refused.
+-- Two: it is lost to a conflicting holder that stands above. Three: it waits for a conflicting holder that is
+-- committing. Four: it is granted, and those in conflict are thrown out. A 33rd lock is refused after the first.
 abbrev pub lock-steps : {K : Type 0} → (K → K → Bool) → List K → State → ℕ → LockKind → ℕ → Outcome
 lock-steps above ranks s c kind e =
     cond (covers (s .locks c e) kind) (answered s Done)

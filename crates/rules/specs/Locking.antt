@@ -12,8 +12,8 @@ use Rattle.rules.specs.declared.LockKind.{LockKind}
 use Rattle.rules.specs.declared.LockKind.the-variants.{Read, Write}
 use Rattle.rules.specs.declared.Lock.{Lock}
 
--- Whether a lock of one kind conflicts with a request of another: any two do, except a read lock beside a
--- read lock while the element has no mark.
+-- Whether a lock of one kind conflicts with a request of another. Two read locks share an element that has
+-- no mark; any other two conflict.
 abbrev pub kinds-conflict : Bool → LockKind → LockKind → Bool
 kinds-conflict mark asked held = is-write asked || is-write held || mark
 
