@@ -127,7 +127,8 @@ is-left (Some l) = l .changed && not (l .taken)
 abbrev pub next-left : State → ℕ → Option ℕ
 next-left s c = first-below 256 (λ e. is-left (s .locks c e))
 
--- Write back of one element: without a mark the table gets the working copy, with one it is left.
+-- Write back of one element. A mark means that a hard write came later, so its number stays in the table;
+-- otherwise the working copy goes there.
 abbrev pub taken-lock : Lock → Lock
 taken-lock l = record { kind = l .kind; copy = l .copy; changed = l .changed; taken = true }
 
