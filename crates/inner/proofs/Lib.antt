@@ -1,0 +1,5 @@
+pub mod Places
+pub mod Release
+pub mod ScanLaws
+pub mod SlotLaws
+pub mod CellLaws
