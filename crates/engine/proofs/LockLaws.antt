@@ -10,6 +10,7 @@ use Rattle.std.specs.declared.result.Result.the-variants.{Ok, Err}
 use Rattle.std.specs.Options.{isSome}
 use Rattle.std.proofs.shelf.Tests.{cond-true, cond-false, eq-eqb, and-left}
 use Rattle.plant.specs.Meaning.{Meaning, has, number, get-answer}
+use Rattle.plant.specs.declared.refusals.Refusal.{Refusal}
 use Rattle.plant.specs.declared.refusals.Refusal.the-variants.{TooManyLocks, NoSuchElement}
 use Rattle.ranks.specs.Standing.{stands-above}
 use Rattle.rules.specs.Scans.{some-below, count-below}
@@ -82,3 +83,11 @@ module _ {K : Type 0} (above : K → K → Bool) (ranks : List K) (s : State) (c
   steps-won f w =
       sym (cond-false (some-below 16 (λ d. conflicts s c kind e d && is-committing (s .clients d))) (answered s Wait) _ w)
       ∙ sym (cond-false (some-below 16 (λ d. conflicts s c kind e d && stands-above above ranks d c)) (answered (leave (λ d. eqb d c) ThrownOut s) Lost) _ f) ∙ to-steps
+
+-- Get refuses no element that the table has.
+pub not-refused : {X : Type 0} (m : Meaning) (e : ℕ) (r : Refusal) → has m e ≡ true → Err r ≡ get-answer m e → (x y : X) → x ≡ y
+not-refused m e r h is x y = go (has m e) h is
+  where
+    go : (b : Bool) → b ≡ true → Err r ≡ cond b (Ok (number m e)) (Err NoSuchElement) → x ≡ y
+    go true t q = cc
+    go false t q = cc
