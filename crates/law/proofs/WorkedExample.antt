@@ -10,7 +10,7 @@ use Rattle.ranks.specs.Kinds.{grade-above}
 use Rattle.rules.specs.Scans.{some-below, count-below, first-below}
 use Rattle.rules.specs.State.{State, opening}
 use Rattle.rules.specs.Step.{step}
-use Rattle.rules.specs.Trials.{three-hundreds}
+use Rattle.rules.specs.Trials.{hundreds}
 use Rattle.rules.specs.declared.Answer.{Answer}
 use Rattle.law.specs.History.{History, Leads}
 use Rattle.law.specs.Play.{Right, all-steps}
@@ -38,11 +38,11 @@ module _ {K : Type 0} (above : K → K → Bool) (m : Meaning) where
       let before : answers-to h ≡ answers-of h = cc in
       (state-after h, leads-there h before, λ i. record { state = state-after (x ∷ h); answer = now i })
 
-same-answers : answers-to grade-above three-hundreds worked ≡ answers-of grade-above three-hundreds worked
+same-answers : answers-to grade-above (hundreds 3) worked ≡ answers-of grade-above (hundreds 3) worked
 unfolding some-below count-below first-below
 same-answers = refl
 
-wrong-read : Right (number three-hundreds) (all-steps (undisplaced worked)) → pos 800 ≡ pos 510
+wrong-read : Right (number (hundreds 3)) (all-steps (undisplaced worked)) → pos 800 ≡ pos 510
 unfolding some-below count-below first-below
 wrong-read r = r .1 .1 .1 .1 .1 .1 .1 .0
 
@@ -53,8 +53,8 @@ pub worked-example : Worked-example
 unfolding some-below count-below first-below
 worked-example =
     record {
-      final = state-after grade-above three-hundreds worked;
-      leads = leads-there grade-above three-hundreds worked same-answers;
+      final = state-after grade-above (hundreds 3) worked;
+      leads = leads-there grade-above (hundreds 3) worked same-answers;
       in-order = refl;
       steps = refl;
       by-moments = refl;

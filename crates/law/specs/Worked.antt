@@ -10,7 +10,7 @@ use Rattle.plant.specs.declared.refusals.Refusal.the-variants.{ThrownOut}
 use Rattle.ranks.specs.declared.Grade.{Grade}
 use Rattle.ranks.specs.Kinds.{grade-above}
 use Rattle.rules.specs.State.{State}
-use Rattle.rules.specs.Trials.{Expected, _⇒_, client, element, begin, read-lock, write-lock, read, change, commit, write-back, end, written, dropped, three-hundreds}
+use Rattle.rules.specs.Trials.{Expected, _⇒_, element, begin, read-lock, write-lock, read, change, commit, write-back, end, written, dropped, hundreds}
 use Rattle.rules.specs.Step.{ranks-after}
 use Rattle.rules.specs.declared.Pointer.{Pointer}
 use Rattle.rules.specs.declared.Call.{Call}
@@ -73,10 +73,10 @@ undisplaced h = walk (λ (a : Entry). a .moment) (accesses h) h
 -- wrong.
 pub record Worked-example : Type 0 where
   pub final : State
-  pub leads : Leads grade-above three-hundreds worked final
+  pub leads : Leads grade-above (hundreds 3) worked final
   pub in-order : map (λ (a : Entry). a .moment) (order worked) ≡ 10 ∷ 16 ∷ 17 ∷ 13 ∷ 15 ∷ 26 ∷ 27 ∷ []
   pub steps : all-steps (order worked) ≡
       reads 0 (pos 100) ∷ reads 0 (pos 100) ∷ sets 0 (pos 700) ∷ sets 1 (pos 800) ∷ sets 1 (pos 510) ∷ reads 1 (pos 510) ∷
       reads 0 (pos 700) ∷ reads 1 (pos 510) ∷ sets 1 (pos 600) ∷ reads 1 (pos 600) ∷ []
   pub by-moments : map (λ (a : Entry). a .moment) (undisplaced worked) ≡ 10 ∷ 13 ∷ 15 ∷ 16 ∷ 17 ∷ 26 ∷ 27 ∷ []
-  pub not-right : Right (number three-hundreds) (all-steps (undisplaced worked)) → ⊥
+  pub not-right : Right (number (hundreds 3)) (all-steps (undisplaced worked)) → ⊥

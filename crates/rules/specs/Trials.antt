@@ -1,12 +1,12 @@
--- The trials: what the rules must answer on worked examples. Each starts with three elements of 100, with
--- pointer 0 tied to element 0, and with grades.
+-- The trials: what the rules must answer on worked examples. Each starts with elements of 100, three where
+-- nothing else is said, with pointer 0 tied to element 0, and with grades.
 use mathlib.Core.Path.{_≡_}
-use mathlib.Core.List.{List, [], _∷_, map}
-use Prim.Native.Nat.{ℕ}
+use mathlib.Core.List.{List, [], _∷_, _++_, map}
+use Prim.Native.Nat.{ℕ, zero, suc}
 use lib.IntN.{ℤ, pos, negsuc}
 use lib.ListN.{replicate}
 use Rattle.plant.specs.Meaning.{Meaning}
-use Rattle.plant.specs.declared.refusals.Refusal.the-variants.{ThrownOut, NoWriteBackLeft}
+use Rattle.plant.specs.declared.refusals.Refusal.the-variants.{ThrownOut, TooManyLocks, NoWriteBackLeft, WriteBacksLeft}
 use Rattle.plant.specs.declared.tables.Element.{Element}
 use Rattle.ranks.specs.declared.Client.{Client}
 use Rattle.ranks.specs.declared.Grade.{Grade}
@@ -81,9 +81,9 @@ written e = WroteBack (element e) Written
 abbrev pub dropped : ℕ → Answer
 dropped e = WroteBack (element e) Dropped
 
--- The table at opening: three elements of 100.
-abbrev pub three-hundreds : Meaning
-three-hundreds = record { numbers = pos 100 ∷ pos 100 ∷ pos 100 ∷ []; lowest = negsuc 2_147_483_647; highest = pos 2_147_483_647 }
+-- The table at opening: so many elements of 100.
+abbrev pub hundreds : ℕ → Meaning
+hundreds n = record { numbers = replicate n (pos 100); lowest = negsuc 2_147_483_647; highest = pos 2_147_483_647 }
 
 -- What the rules make of a list of calls: their answers, then the table's numbers. The one rank list goes
 -- from call to call.
@@ -101,9 +101,9 @@ abbrev pub play : State → List Grade → List Expected → Played
 play s ranks [] = record { answers = []; numbers = s .table .numbers }
 play s ranks (x ∷ xs) = play-on (step grade-above s ranks (x .call)) ranks (x .call) (λ later ranks′. play later ranks′ xs)
 
-abbrev pub played : Trial → Played
-played t =
-    play (opening three-hundreds) (replicate 16 (record { 0 = 0 }))
+abbrev pub played : ℕ → Trial → Played
+played n t =
+    play (opening (hundreds n)) (replicate 16 (record { 0 = 0 }))
     ((Bind (record { 0 = 0 }) (element 0) ⇒ Done) ∷ t .calls)
 
 -- What the trial expects.
@@ -223,12 +223,75 @@ nobody-thrown-out-by-a-loser =
       numbers = pos 100 ∷ pos 100 ∷ pos 100 ∷ [];
     }
 
--- All of them.
+-- A hard write of a write-locked element is what the next hard read shows, before and after the end; the
+-- change is dropped.
+abbrev pub hard-read-follows-hard-write : Trial
+hard-read-follows-hard-write =
+    record {
+      calls =
+          (begin 1 5 ⇒ Done) ∷ (write-lock 1 0 ⇒ Done) ∷ (change 1 0 130 ⇒ Done) ∷ (hard-write 90 ⇒ Done) ∷
+          (hard-read ⇒ number 90) ∷ (commit 1 ⇒ Done) ∷ (write-back 1 ⇒ dropped 0) ∷ (hard-read ⇒ number 90) ∷
+          (end 1 ⇒ Done) ∷ (hard-read ⇒ number 90) ∷ [];
+      numbers = pos 90 ∷ pos 100 ∷ pos 100 ∷ [];
+    }
+
+-- Also where a reader has gained the write lock, a hard read shows the old number until the end.
+abbrev pub upgrade-shows-old : Trial
+upgrade-shows-old =
+    record {
+      calls =
+          (begin 1 5 ⇒ Done) ∷ (read-lock 1 0 ⇒ Done) ∷ (write-lock 1 0 ⇒ Done) ∷ (change 1 0 130 ⇒ Done) ∷
+          (commit 1 ⇒ Done) ∷ (write-back 1 ⇒ written 0) ∷ (hard-read ⇒ number 100) ∷ (end 1 ⇒ Done) ∷
+          (hard-read ⇒ number 130) ∷ [];
+      numbers = pos 130 ∷ pos 100 ∷ pos 100 ∷ [];
+    }
+
+-- A mark from an earlier holder does not count against the next first holder: its change is written.
+abbrev pub first-holder-unmarked : Trial
+first-holder-unmarked =
+    record {
+      calls =
+          (begin 1 5 ⇒ Done) ∷ (read-lock 1 0 ⇒ Done) ∷ (hard-write 90 ⇒ Done) ∷ (commit 1 ⇒ Done) ∷ (end 1 ⇒ Done) ∷
+          (begin 2 5 ⇒ Done) ∷ (write-lock 2 0 ⇒ Done) ∷ (read 2 0 ⇒ number 90) ∷ (change 2 0 130 ⇒ Done) ∷
+          (commit 2 ⇒ Done) ∷ (write-back 2 ⇒ written 0) ∷ (end 2 ⇒ Done) ∷ (hard-read ⇒ number 130) ∷ [];
+      numbers = pos 130 ∷ pos 100 ∷ pos 100 ∷ [];
+    }
+
+-- An end with a changed element that has not been taken is refused and changes nothing.
+abbrev pub end-after-write-backs : Trial
+end-after-write-backs =
+    record {
+      calls =
+          (begin 1 5 ⇒ Done) ∷ (write-lock 1 0 ⇒ Done) ∷ (write-lock 1 2 ⇒ Done) ∷ (change 1 0 130 ⇒ Done) ∷
+          (change 1 2 70 ⇒ Done) ∷ (commit 1 ⇒ Done) ∷ (write-back 1 ⇒ written 0) ∷ (end 1 ⇒ Refused WriteBacksLeft) ∷
+          (write-back 1 ⇒ written 2) ∷ (end 1 ⇒ Done) ∷ [];
+      numbers = pos 130 ∷ pos 100 ∷ pos 70 ∷ [];
+    }
+
+-- Client 1 gets a read lock on each element below a number.
+abbrev pub reads-below : ℕ → List Expected
+reads-below zero = []
+reads-below (suc e) = reads-below e ++ ((read-lock 1 e ⇒ Done) ∷ [])
+
+-- With 33 elements: a client that holds 32 is refused one more, and may still gain a write lock.
+abbrev pub at-most-32-locks : Trial
+at-most-32-locks =
+    record {
+      calls = (begin 1 5 ⇒ Done) ∷ reads-below 32 ++ ((read-lock 1 32 ⇒ Refused TooManyLocks) ∷ (write-lock 1 31 ⇒ Done) ∷ []);
+      numbers = replicate 33 (pos 100);
+    }
+
+-- All with three elements.
 abbrev pub trials : List Trial
 trials =
     old-until-end ∷ later-hard-write ∷ lower-loses-across-mark ∷ higher-wins-across-mark ∷ readers-share 4 ∷ readers-share 6 ∷
-    upgrade-keeps-mark ∷ equal-grades ∷ higher-waits ∷ lower-loses ∷ nothing-changed ∷ nobody-thrown-out-by-a-loser ∷ []
+    upgrade-keeps-mark ∷ equal-grades ∷ higher-waits ∷ lower-loses ∷ nothing-changed ∷ nobody-thrown-out-by-a-loser ∷
+    hard-read-follows-hard-write ∷ upgrade-shows-old ∷ first-holder-unmarked ∷ end-after-write-backs ∷ []
+
+-- Those with 33 elements.
+abbrev pub large-trials : List Trial
+large-trials = at-most-32-locks ∷ []
 
 -- Every trial comes out as expected: each answer, and the table's numbers at the end.
 abbrev pub Trials-hold : Type 0
-Trials-hold = map played trials ≡ map expected trials
+Trials-hold = map (played 3) trials ++ map (played 33) large-trials ≡ map expected (trials ++ large-trials)
