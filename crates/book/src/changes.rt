@@ -120,12 +120,7 @@ impl Book {
     {
         let c = client.0 as usize;
         let place = self.place_of(client, element);
-        let lock = Lock {
-            kind,
-            copy: held.copy,
-            changed: held.changed,
-            taken: held.taken,
-        };
+        let lock = Lock { kind, ..held };
         self.inner.set_slot(
             c,
             place,

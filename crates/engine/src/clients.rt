@@ -13,7 +13,6 @@ use plant::Table;
 use ranks::Client;
 use ranks::Rank;
 use rules::Fate;
-use rules::Lock;
 use rules::LockKind;
 use rules::Move;
 
@@ -69,29 +68,18 @@ impl<T: Table> Engine<T> {
         if !self.has(element) {
             return Err(Refusal::NoSuchElement);
         }
-        let Some(
-            Lock {
-                kind: LockKind::Write,
-                taken,
-                ..
-            },
-        ) = self.book.lock_of(client, element)
-        else {
+        let Some(mut lock) = self.book.lock_of(client, element) else {
             return Err(Refusal::NoLock);
         };
+        if let LockKind::Read = lock.kind {
+            return Err(Refusal::NoLock);
+        }
         if !self.is_within(written) {
             return Err(Refusal::NumberOutsideLimits);
         }
-        self.book.set_lock(
-            client,
-            element,
-            Lock {
-                kind: LockKind::Write,
-                copy: written,
-                changed: true,
-                taken,
-            },
-        );
+        lock.copy = written;
+        lock.changed = true;
+        self.book.set_lock(client, element, lock);
         Ok(())
     }
 
@@ -120,19 +108,11 @@ impl<T: Table> Engine<T> {
         requires { ⌜ client .0 < 16 ⌝ }
         ensures { λ r. ⌜ left-with meaning (now (self .exit)) (back-answer r) ≡ back-lock (state-of meaning (now (self .entry))) (client .0) (element .0) (state-of meaning (now (self .entry)) .locks (client .0) (element .0)) ⌝ }
     {
-        let Some(lock) = self.book.lock_of(client, element) else {
+        let Some(mut lock) = self.book.lock_of(client, element) else {
             return Err(Refusal::NoWriteBackLeft);
         };
-        self.book.set_lock(
-            client,
-            element,
-            Lock {
-                kind: lock.kind,
-                copy: lock.copy,
-                changed: lock.changed,
-                taken: true,
-            },
-        );
+        lock.taken = true;
+        self.book.set_lock(client, element, lock);
         if self.book.is_marked(element) {
             return Ok((element, Fate::Dropped));
         }
