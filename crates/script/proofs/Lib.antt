@@ -1,0 +1,4 @@
+pub mod Law
+pub mod Searching
+pub mod Walking
+pub mod Walks
