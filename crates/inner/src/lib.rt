@@ -1,4 +1,4 @@
-// What the engine keeps beside the table: each client's state and locks, each element's cell, the ties.
+// Beside the table: what is kept of clients, of elements and of pointers, in fixed memory.
 mod cells;
 mod slots;
 mod whole;
