@@ -1,5 +1,12 @@
 // The record of a log: which transaction holds what, what is marked, which pointer is tied where.
 // It is kept by calls and answers alone.
+ghost use mathlib.Core.Path.{_≡_};
+ghost use mathlib.Core.Bool.{true, false, _&&_};
+ghost use Prim.Native.Nat.{_<_};
+ghost use lib.Dec.{eqb};
+ghost use lib.ListN.{getD, set};
+ghost use Rattle.rules.specs.State.{is-write};
+ghost use Rattle.rules.specs.declared.Answer.the-variants.{Done, Number, WroteBack, Wait, Lost, Refused};
 use plant::Element;
 use ranks::Client;
 use ranks::Grade;
@@ -43,23 +50,31 @@ pub struct Record {
 }
 
 impl Holding {
-    fn is_on(&self, element: Element) -> bool {
+    fn is_on(&self, element: Element) -> bool
+        ensures { λ r. ⌜ r ≡ (now (self .entry) .held && eqb (now (self .entry) .element .0) (element .0)) ⌝ }
+    {
         self.held && self.element.0 == element.0
     }
 
-    fn is_of(&self, client: Client, element: Element) -> bool {
+    fn is_of(&self, client: Client, element: Element) -> bool
+        ensures { λ r. ⌜ r ≡ ((now (self .entry) .held && eqb (now (self .entry) .element .0) (element .0)) && eqb (now (self .entry) .client .0) (client .0)) ⌝ }
+    {
         self.is_on(element) && self.client.0 == client.0
     }
 }
 
-fn is_write(kind: LockKind) -> bool {
+fn is_write(kind: LockKind) -> bool
+    ensures { λ r. ⌜ r ≡ is-write kind ⌝ }
+{
     match kind {
         LockKind::Read => false,
         LockKind::Write => true,
     }
 }
 
-pub fn is_done(answer: Answer) -> bool {
+pub fn is_done(answer: Answer) -> bool
+    ensures { λ r. ⌜ elim answer [ Done ↦ r ≡ true | Number v ↦ r ≡ false | WroteBack e f ↦ r ≡ false | Wait ↦ r ≡ false | Lost ↦ r ≡ false | Refused n ↦ r ≡ false ] ⌝ }
+{
     match answer {
         Answer::Done => true,
         _ => false,
@@ -103,7 +118,9 @@ impl Record {
         }
     }
 
-    fn begin(&mut self, moment: usize, client: Client) {
+    fn begin(&mut self, moment: usize, client: Client)
+        ensures { λ _. ⌜ (client .0 < 16 → now (self .exit) .begun ≡ set (now (self .entry) .begun) (client .0) moment) ⌝ }
+    {
         let c = client.0 as usize;
         if c < 16 {
             self.begun[c] = moment;
@@ -111,7 +128,9 @@ impl Record {
     }
 
     // The moment at which the client's latest transaction began.
-    pub fn begun_by(&self, client: Client) -> usize {
+    pub fn begun_by(&self, client: Client) -> usize
+        ensures { λ r. ⌜ (client .0 < 16 → r ≡ getD (now (self .entry) .begun) (client .0) 0) ⌝ }
+    {
         let c = client.0 as usize;
         if c < 16 { self.begun[c] } else { 0 }
     }
@@ -139,7 +158,9 @@ impl Record {
         e < 256 && self.marked[e]
     }
 
-    fn set_mark(&mut self, element: Element, marked: bool) {
+    fn set_mark(&mut self, element: Element, marked: bool)
+        ensures { λ _. ⌜ (element .0 < 256 → now (self .exit) .marked ≡ set (now (self .entry) .marked) (element .0) marked) ⌝ }
+    {
         let e = element.0 as usize;
         if e < 256 {
             self.marked[e] = marked;
@@ -211,7 +232,9 @@ impl Record {
         }
     }
 
-    fn tie(&mut self, pointer: Pointer, tie: Option<Element>) {
+    fn tie(&mut self, pointer: Pointer, tie: Option<Element>)
+        ensures { λ _. ⌜ (pointer .0 < 64 → now (self .exit) .ties ≡ set (now (self .entry) .ties) (pointer .0) tie) ⌝ }
+    {
         let p = pointer.0 as usize;
         if p < 64 {
             self.ties[p] = tie;
