@@ -1,22 +1,7 @@
 #!/usr/bin/env bash
 # Runs lineplay on scripts by pipe and by file: what it prints, when it prints it, and its exit status.
 set -euo pipefail
-root=$(cd "$(dirname "$(readlink -f "$0")")/.." && pwd)
-folder=$(mktemp -d)
-trap 'rm -rf "$folder"' EXIT
-cd "$folder"
-passed=0
-failed=0
-
-# same WHAT FOUND WANTED: one comparison.
-same() {
-    if [ "$2" = "$3" ]; then
-        passed=$((passed + 1))
-    else
-        failed=$((failed + 1))
-        printf 'FAILED: %s\n  found:  %s\n  wanted: %s\n' "$1" "$2" "$3"
-    fi
-}
+source "$(dirname "$(readlink -f "$0")")/../tools/comparing"
 
 # run WHAT STATUS PRINTED ARGUMENT..: runs the program on standard input, and compares its status and all that it prints.
 run() {
@@ -130,5 +115,4 @@ timeout 20 bash -c 'yes "(get 0)" | "$1" 2> /dev/null | head -n 1 > first' play 
 same 'the first answer of an endless script' "$(cat first)" '(fault 26 1)'
 same 'an endless script whose answers nobody reads ends' "$status" 0
 
-echo "$passed passed, $failed failed"
-[ "$failed" -eq 0 ]
+report

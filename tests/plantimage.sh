@@ -1,22 +1,7 @@
 #!/usr/bin/env bash
 # Runs plantimage on real files: what it prints, its exit status, and every byte that it leaves.
 set -euo pipefail
-root=$(cd "$(dirname "$(readlink -f "$0")")/.." && pwd)
-folder=$(mktemp -d)
-trap 'rm -rf "$folder"' EXIT
-cd "$folder"
-passed=0
-failed=0
-
-# same WHAT FOUND WANTED: one comparison.
-same() {
-    if [ "$2" = "$3" ]; then
-        passed=$((passed + 1))
-    else
-        failed=$((failed + 1))
-        printf 'FAILED: %s\n  found:  %s\n  wanted: %s\n' "$1" "$2" "$3"
-    fi
-}
+source "$(dirname "$(readlink -f "$0")")/../tools/comparing"
 
 # run STATUS PRINTED ARGUMENT..: runs the program, and compares its status and all that it prints.
 run() {
@@ -103,5 +88,4 @@ $usage" set overnight.img 3
 hold overnight.img "$overnight"
 same 'what lies in the folder' "$(ls | tr '\n' ' ')" 'empty.img overnight.img short.img '
 
-echo "$passed passed, $failed failed"
-[ "$failed" -eq 0 ]
+report
