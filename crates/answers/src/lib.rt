@@ -1,4 +1,6 @@
 // Answer lines: what the office program writes for each line of a script.
+#![tactic(auto)]
+
 mod lines;
 mod writers;
 

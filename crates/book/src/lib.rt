@@ -1,4 +1,6 @@
 // The engine's inner struct with what it knows of itself.
+#![tactic(auto)]
+
 mod changes;
 mod keeping;
 mod locking;

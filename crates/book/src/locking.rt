@@ -73,7 +73,7 @@ impl Book {
         kind: LockKind,
         element: Element,
     ) -> bool
-        ensures { result ≡ some_below 16 (λ d. blocks self.now.inner client.0 kind element.0 d && stands_above above ranks.now d client.0) }
+        ensures { result ≡ some_below 16 (λ d. blocks self.now.inner client.0 kind element.0 d && stands_above K.above ranks.now d client.0) }
     {
         let mut lost = false;
         for d in 0..16 {

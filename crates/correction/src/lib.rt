@@ -1,4 +1,6 @@
 // Correcting one number of a plant image, and the text that people give and read for it.
+#![tactic(auto)]
+
 mod changes;
 mod texts;
 

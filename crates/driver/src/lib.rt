@@ -1,4 +1,6 @@
 // The line driver: a line of bytes in, its answer out, by way of the engine.
+#![tactic(auto)]
+
 mod asked;
 mod playing;
 

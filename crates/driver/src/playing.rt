@@ -37,14 +37,14 @@ pub fn first_line(line: &[u8]) -> Result<Opening, Fault>
 
 // Makes a call, and has its answer as a line.
 fn make<T: Table, K: Rank>(engine: &mut Engine<T>, ranks: &mut [K], call: Call<K>) -> AnswerLine
-    ensures { Makes meaning above engine.old ranks.old call result engine.new ranks.new }
+    ensures { Makes T.meaning K.above engine.old ranks.old call result engine.new ranks.new }
 {
     AnswerLine::Answer(engine.perform(ranks, call))
 }
 
 // A line after an open with grades.
 pub fn grade_line<T: Table>(engine: &mut Engine<T>, ranks: &mut [Grade], line: &[u8]) -> AnswerLine
-    ensures { Plays grades grade_call meaning grade_above engine.old ranks.old line.now result engine.new ranks.new }
+    ensures { Plays grades grade_call T.meaning grade_above engine.old ranks.old line.now result engine.new ranks.new }
 {
     match read_line(Some(RankKind::Grade), line) {
         Ok(form) => match grade_call(form) {
@@ -58,7 +58,7 @@ pub fn grade_line<T: Table>(engine: &mut Engine<T>, ranks: &mut [Grade], line: &
 
 // A line after an open with due times.
 pub fn due_line<T: Table>(engine: &mut Engine<T>, ranks: &mut [Due], line: &[u8]) -> AnswerLine
-    ensures { Plays dues due_call meaning due_above engine.old ranks.old line.now result engine.new ranks.new }
+    ensures { Plays dues due_call T.meaning due_above engine.old ranks.old line.now result engine.new ranks.new }
 {
     match read_line(Some(RankKind::Due), line) {
         Ok(form) => match due_call(form) {

@@ -18,7 +18,7 @@ impl<T: Table> Engine<T> {
         client: Client,
         rank: K,
     ) -> Result<(), Refusal>
-        ensures value { left_with meaning self.new (done_answer result) ≡ begin_call (state_of meaning self.old) (length ranks.old) client.0 }
+        ensures value { left_with T.meaning self.new (done_answer result) ≡ begin_call (state_of T.meaning self.old) (length ranks.old) client.0 }
         ensures ranks { ranks.new ≡ written_by_begin (done_answer result) ranks.old client.0 rank }
     {
         if client.0 >= 16 {
@@ -35,7 +35,7 @@ impl<T: Table> Engine<T> {
 
     // The working copy of an element that the client has locked.
     pub fn read(&self, client: Client, element: Element) -> Result<i64, Refusal>
-        ensures { left_with meaning self.now (number_answer result) ≡ read_call (state_of meaning self.now) client.0 element.0 }
+        ensures { left_with T.meaning self.now (number_answer result) ≡ read_call (state_of T.meaning self.now) client.0 element.0 }
     {
         let _after = self.book.meets(client, Move::Read)?;
         if !self.has(element) {
@@ -49,14 +49,14 @@ impl<T: Table> Engine<T> {
 
     // Whether a number lies within the table's limits.
     fn is_within(&self, written: i64) -> bool
-        ensures { result ≡ within (meaning self.now.table) written }
+        ensures { result ≡ within (T.meaning self.now.table) written }
     {
         !(written < self.table.lowest()) & !(self.table.highest() < written)
     }
 
     // The working copy of an element that the client has locked for writing is set.
     pub fn change(&mut self, client: Client, element: Element, written: i64) -> Result<(), Refusal>
-        ensures { left_with meaning self.new (done_answer result) ≡ change_call (state_of meaning self.old) client.0 element.0 written }
+        ensures { left_with T.meaning self.new (done_answer result) ≡ change_call (state_of T.meaning self.old) client.0 element.0 written }
     {
         let _after = self.book.meets(client, Move::Change)?;
         if !self.has(element) {
@@ -79,7 +79,7 @@ impl<T: Table> Engine<T> {
 
     // The client enters the committing step.
     pub fn commit(&mut self, client: Client) -> Result<(), Refusal>
-        ensures { left_with meaning self.new (done_answer result) ≡ commit_call (state_of meaning self.old) client.0 }
+        ensures { left_with T.meaning self.new (done_answer result) ≡ commit_call (state_of T.meaning self.old) client.0 }
     {
         let after = self.book.meets(client, Move::Commit)?;
         self.book.enter(client, after);
@@ -88,7 +88,7 @@ impl<T: Table> Engine<T> {
 
     // The client's lowest-numbered changed element that is left goes back, or is dropped over a mark.
     pub fn write_back(&mut self, client: Client) -> Result<(Element, Fate), Refusal>
-        ensures { left_with meaning self.new (back_answer result) ≡ write_back_call (state_of meaning self.old) client.0 }
+        ensures { left_with T.meaning self.new (back_answer result) ≡ write_back_call (state_of T.meaning self.old) client.0 }
     {
         let _after = self.book.meets(client, Move::WriteBack)?;
         match self.book.next_left(client) {
@@ -100,7 +100,7 @@ impl<T: Table> Engine<T> {
     // One element of the client goes back.
     fn take_back(&mut self, client: Client, element: Element) -> Result<(Element, Fate), Refusal>
         requires { client.0 < 16 }
-        ensures { left_with meaning self.new (back_answer result) ≡ back_lock (state_of meaning self.old) client.0 element.0 ((state_of meaning self.old).locks client.0 element.0) }
+        ensures { left_with T.meaning self.new (back_answer result) ≡ back_lock (state_of T.meaning self.old) client.0 element.0 ((state_of T.meaning self.old).locks client.0 element.0) }
     {
         let Some(mut lock) = self.book.lock_of(client, element) else {
             return Err(Refusal::NoWriteBackLeft);
@@ -117,7 +117,7 @@ impl<T: Table> Engine<T> {
 
     // The client ends, with all its locks gone.
     pub fn end(&mut self, client: Client) -> Result<(), Refusal>
-        ensures { left_with meaning self.new (done_answer result) ≡ end_call (state_of meaning self.old) client.0 }
+        ensures { left_with T.meaning self.new (done_answer result) ≡ end_call (state_of T.meaning self.old) client.0 }
     {
         let after = self.book.meets(client, Move::End)?;
         if self.book.next_left(client).is_some() {
@@ -129,7 +129,7 @@ impl<T: Table> Engine<T> {
 
     // The client gives up, with all its locks gone.
     pub fn give_up(&mut self, client: Client) -> Result<(), Refusal>
-        ensures { left_with meaning self.new (done_answer result) ≡ give_up_call (state_of meaning self.old) client.0 }
+        ensures { left_with T.meaning self.new (done_answer result) ≡ give_up_call (state_of T.meaning self.old) client.0 }
     {
         let after = self.book.meets(client, Move::GiveUp)?;
         self.book.leave(client, after);
@@ -138,7 +138,7 @@ impl<T: Table> Engine<T> {
 
     // The client knows that it was thrown out.
     pub fn clear(&mut self, client: Client) -> Result<(), Refusal>
-        ensures { left_with meaning self.new (done_answer result) ≡ clear_call (state_of meaning self.old) client.0 }
+        ensures { left_with T.meaning self.new (done_answer result) ≡ clear_call (state_of T.meaning self.old) client.0 }
     {
         let after = self.book.meets(client, Move::Clear)?;
         self.book.enter(client, after);

@@ -1,4 +1,6 @@
 // The engine: thirteen calls over any table and any kind of rank.
+#![tactic(auto)]
+
 mod answers;
 mod clients;
 mod locking;

@@ -23,7 +23,7 @@ impl<T: Table> Engine<T> {
         kind: LockKind,
         element: Element,
     ) -> Result<Locking, Refusal>
-        ensures { left_with meaning self.new (lock_answer result) ≡ lock_call above ranks.now (state_of meaning self.old) client.0 kind element.0 }
+        ensures { left_with T.meaning self.new (lock_answer result) ≡ lock_call K.above ranks.now (state_of T.meaning self.old) client.0 kind element.0 }
     {
         if client.0 >= 16 {
             return Err(Refusal::ClientOutOfRange);
@@ -46,8 +46,8 @@ impl<T: Table> Engine<T> {
         kind: LockKind,
         element: Element,
     ) -> Result<Locking, Refusal>
-        requires { (client.0 < 16) × ((element.0 < 256) × (has (meaning self.old.table) element.0 ≡ true)) }
-        ensures { left_with meaning self.new (lock_answer result) ≡ lock_steps above ranks.now (state_of meaning self.old) client.0 kind element.0 }
+        requires { (client.0 < 16) × ((element.0 < 256) × (has (T.meaning self.old.table) element.0 ≡ true)) }
+        ensures { left_with T.meaning self.new (lock_answer result) ≡ lock_steps K.above ranks.now (state_of T.meaning self.old) client.0 kind element.0 }
     {
         let held = self.book.lock_of(client, element);
         if is_covered(held, kind) {
@@ -69,8 +69,8 @@ impl<T: Table> Engine<T> {
 
     // All that stand in the way are thrown out, and the lock is granted.
     fn win(&mut self, client: Client, kind: LockKind, element: Element) -> Result<Locking, Refusal>
-        requires { (client.0 < 16) × ((element.0 < 256) × ((has (meaning self.old.table) element.0 ≡ true) × ((is_some ((state_of meaning self.old).locks client.0 element.0) || nat_lt (lock_count (state_of meaning self.old) client.0) 32) ≡ true))) }
-        ensures { left_with meaning self.new (lock_answer result) ≡ answered (gain client.0 kind element.0 (leaving (λ d. conflicts (state_of meaning self.old) client.0 kind element.0 d) ThrownOut (state_of meaning self.old))) Done }
+        requires { (client.0 < 16) × ((element.0 < 256) × ((has (T.meaning self.old.table) element.0 ≡ true) × ((is_some ((state_of T.meaning self.old).locks client.0 element.0) || nat_lt (lock_count (state_of T.meaning self.old) client.0) 32) ≡ true))) }
+        ensures { left_with T.meaning self.new (lock_answer result) ≡ answered (gain client.0 kind element.0 (leaving (λ d. conflicts (state_of T.meaning self.old) client.0 kind element.0 d) ThrownOut (state_of T.meaning self.old))) Done }
     {
         let found = self.table.get(element)?;
         self.book.throw_out(client, kind, element);

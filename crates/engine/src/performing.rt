@@ -13,16 +13,16 @@ use rules::{Answer, Call};
 impl<T: Table> Engine<T> {
     // Makes the call. Every history that has led to this engine goes on with it, and has the law of a run.
     pub fn perform<K: Rank>(&mut self, ranks: &mut [K], call: Call<K>) -> Answer
-        ensures value { left_with meaning self.new result ≡ step above (state_of meaning self.old) ranks.old call }
+        ensures value { left_with T.meaning self.new result ≡ step K.above (state_of T.meaning self.old) ranks.old call }
         ensures ranks { ranks.new ≡ ranks_after ranks.old call result }
-        ensures law { LawGoesOn above (state_of meaning self.old) ranks.old call result (state_of meaning self.new) }
+        ensures law { LawGoesOn K.above (state_of T.meaning self.old) ranks.old call result (state_of T.meaning self.new) }
     {
         self.dispatch(ranks, call)
     }
 
     // The call is made, and its result is the rules' answer.
     fn dispatch<K: Rank>(&mut self, ranks: &mut [K], call: Call<K>) -> Answer
-        ensures value { left_with meaning self.new result ≡ step above (state_of meaning self.old) ranks.old call }
+        ensures value { left_with T.meaning self.new result ≡ step K.above (state_of T.meaning self.old) ranks.old call }
         ensures ranks { ranks.new ≡ ranks_after ranks.old call result }
     {
         match call {

@@ -10,7 +10,7 @@ use rules::Pointer;
 impl<T: Table> Engine<T> {
     // A pointer that is not bound is tied to an element.
     pub fn bind(&mut self, pointer: Pointer, element: Element) -> Result<(), Refusal>
-        ensures { left_with meaning self.new (done_answer result) ≡ bind_call (state_of meaning self.old) pointer.0 element }
+        ensures { left_with T.meaning self.new (done_answer result) ≡ bind_call (state_of T.meaning self.old) pointer.0 element }
     {
         if pointer.0 >= 64 {
             return Err(Refusal::PointerOutOfRange);
@@ -27,7 +27,7 @@ impl<T: Table> Engine<T> {
 
     // A pointer is untied.
     pub fn remove(&mut self, pointer: Pointer) -> Result<(), Refusal>
-        ensures { left_with meaning self.new (done_answer result) ≡ remove_call (state_of meaning self.old) pointer.0 }
+        ensures { left_with T.meaning self.new (done_answer result) ≡ remove_call (state_of T.meaning self.old) pointer.0 }
     {
         if pointer.0 >= 64 {
             return Err(Refusal::PointerOutOfRange);
@@ -41,7 +41,7 @@ impl<T: Table> Engine<T> {
 
     // What the element shows that the pointer is bound to.
     pub fn hard_read(&self, pointer: Pointer) -> Result<i64, Refusal>
-        ensures { left_with meaning self.now (number_answer result) ≡ hard_read_call (state_of meaning self.now) pointer.0 }
+        ensures { left_with T.meaning self.now (number_answer result) ≡ hard_read_call (state_of T.meaning self.now) pointer.0 }
     {
         if pointer.0 >= 64 {
             return Err(Refusal::PointerOutOfRange);
@@ -57,7 +57,7 @@ impl<T: Table> Engine<T> {
 
     // The number goes into the table, and the element's cell learns of it.
     pub fn hard_write(&mut self, pointer: Pointer, written: i64) -> Result<(), Refusal>
-        ensures { left_with meaning self.new (done_answer result) ≡ hard_write_call (state_of meaning self.old) pointer.0 written }
+        ensures { left_with T.meaning self.new (done_answer result) ≡ hard_write_call (state_of T.meaning self.old) pointer.0 written }
     {
         if pointer.0 >= 64 {
             return Err(Refusal::PointerOutOfRange);

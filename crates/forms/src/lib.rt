@@ -1,4 +1,6 @@
 // The forms of a script, and the table of their shapes.
+#![tactic(auto)]
+
 mod makers;
 mod shapes;
 

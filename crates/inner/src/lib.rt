@@ -1,4 +1,6 @@
 // Beside the table: what is kept of clients, of elements and of pointers, in fixed memory.
+#![tactic(auto)]
+
 mod cells;
 mod slots;
 mod whole;

@@ -1,4 +1,6 @@
 // The items of a script line: words, numbers and brackets, each with its place.
+#![tactic(auto)]
+
 mod cutter;
 mod numbers;
 

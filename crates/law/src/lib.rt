@@ -1,4 +1,6 @@
 // The law of every run of the rules, and the plain answers that follow from it.
+#![tactic(auto)]
+
 ghost use Rattle.law.specs.Answers.{NeverMixed, OldNumberUntilTheEnd};
 ghost use Rattle.law.specs.Law.{EveryRunHasTheLaw, SecondVersionWhileWriteLocked};
 ghost use Rattle.law.specs.Worked.{WorkedExample};

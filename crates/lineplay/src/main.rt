@@ -1,4 +1,6 @@
 // Plays a script: one answer line for each line that comes in.
+#![tactic(auto)]
+
 mod feed;
 mod kinds;
 

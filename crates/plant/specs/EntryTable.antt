@@ -1,5 +1,5 @@
 -- What a number list means: which entry of the caller's list each element is, and what a put leaves there.
-use Rattle.std.specs.Prelude.{ℕ, cond, ◌&&◌, List, take, set, ℤ, pos, negsuc, slice_set}
+use Rattle.std.specs.Prelude.{ℕ, cond, ◌&&◌, List, take, ℤ, pos, negsuc, slice_set}
 use Rattle.plant.specs.Meaning.{Meaning, has, within}
 
 -- The elements are the entries in their order, at most 256 of them, within the limits of 32 signed bits.

@@ -1,5 +1,5 @@
 -- What a table means, and what get and put answer and leave, by that meaning.
-use Rattle.std.specs.Prelude.{ℕ, Bool, true, false, cond, not, ◌&&◌, List, length, set, ℤ, pos, Ok, Err, Result, int_lt, nat_lt, slice_index_or, slice_set}
+use Rattle.std.specs.Prelude.{ℕ, Bool, cond, not, ◌&&◌, List, length, ℤ, pos, Ok, Err, Result, int_lt, nat_lt, slice_index_or, slice_set}
 use Rattle.plant.specs.declared.refusals.Refusal.{Refusal}
 use Rattle.plant.specs.declared.refusals.Refusal.TheVariants.{NoSuchElement, NumberOutsideLimits}
 

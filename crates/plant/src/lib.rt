@@ -1,4 +1,6 @@
 // The plant's numbers: what a table means, two tables, and the refusals of the whole project.
+#![tactic(auto)]
+
 mod image;
 mod number_list;
 mod refusals;

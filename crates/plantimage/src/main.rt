@@ -1,4 +1,6 @@
 // Shows the numbers of a plant image, and corrects one of them.
+#![tactic(auto)]
+
 use correction::{Correction, correct, line, read_element, read_number};
 use plant::{Element, Image, Refusal, Table};
 use std::fs::File;

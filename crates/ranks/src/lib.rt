@@ -1,4 +1,6 @@
 // Clients, kinds of rank, and which client stands above which.
+#![tactic(auto)]
+
 ghost use Rattle.std.specs.Prelude.{◌≡◌, Bool, true, false};
 ghost use Rattle.ranks.specs.Kinds.{grade_above, due_above};
 ghost use Rattle.ranks.specs.Standing.{stands_above, Decides};
@@ -64,7 +66,7 @@ impl Rank for Due {
 
 // Whether a client stands above another, by their entries in the host's rank list.
 pub fn stands_above<K: Rank>(ranks: &[K], client: Client, other: Client) -> bool
-    ensures { result ≡ stands_above above ranks.now client.0 other.0 }
+    ensures { result ≡ stands_above K.above ranks.now client.0 other.0 }
 {
     let c = client.0 as usize;
     let d = other.0 as usize;

@@ -1,6 +1,6 @@
 -- What a call can come to, told once: each way in which a step can go, with what is known then. All laws
 -- about runs use this list, and not the text of the step.
-use Rattle.std.specs.Prelude.{◌≡◌, ℕ, Bool, true, false, not, ◌&&◌, List, ℤ, Some, None, nat_eq, nat_lt}
+use Rattle.std.specs.Prelude.{◌≡◌, ℕ, Bool, true, false, ◌&&◌, List, ℤ, Some, None, nat_eq, nat_lt}
 use Rattle.plant.specs.Meaning.{has, within}
 use Rattle.plant.specs.declared.refusals.Refusal.{Refusal}
 use Rattle.plant.specs.declared.tables.Element.{Element}

@@ -1,4 +1,6 @@
 // The words of the two-version protocol: calls, answers, client states and locks.
+#![tactic(auto)]
+
 ghost use Rattle.rules.specs.Effects.{EveryStepHasAnEffect};
 ghost use Rattle.rules.specs.Trials.{TrialsHold};
 

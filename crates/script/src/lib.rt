@@ -1,4 +1,6 @@
 // A script line read as a form, or refused with the place of its fault.
+#![tactic(auto)]
+
 mod reader;
 
 pub use reader::{Fault, one_reading, read_line};

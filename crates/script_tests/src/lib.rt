@@ -1,4 +1,6 @@
 // Examples of script lines and answer lines, each proved safe and then run.
+#![tactic(auto)]
+
 #[cfg(test)]
 mod answers_written;
 #[cfg(test)]

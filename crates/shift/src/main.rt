@@ -1,4 +1,6 @@
 // One rescaling from beginning to end, while the mixer reads, a scale writes and a second planner tries.
+#![tactic(auto)]
+
 ghost use Rattle.std.specs.Prelude.{◌≡◌};
 
 mod order;

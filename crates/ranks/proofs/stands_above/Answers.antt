@@ -19,7 +19,7 @@ returns-then-c-ranks g c = grind (arith, nat_tests, slice_get_past, slice_get_re
 
 pub returns : goal.returns
 returns g c =
-    found g.K.Rank.above c.args.ranks.now c.args.client.0 c.args.other.0 c.index-ranks-c.result c.index-ranks-d.result c.is-above.result c.is-above-2.result
+    found g.K.Rank.above c.args.ranks.now c.args.client.0 c.args.other.0 c.index-ranks-c.result c.index-ranks-d.result c.is_above.result c.is_above-2.result
     (read c.args.ranks.now c.args.client.0 c.index-ranks-c.result c.if-c-ranks.false c.index-ranks-c.is)
     (read c.args.ranks.now c.args.other.0 c.index-ranks-d.result c.if-d-ranks.false c.index-ranks-d.is)
-    c.is-above.ensures c.is-above-2.ensures
+    c.is_above.ensures c.is_above-2.ensures

@@ -7,8 +7,8 @@ returns-in-Number c = record { bytes = search rules; short = simp length-append 
 
 pub returns-in-WroteBack : goal.returns-in-WroteBack
 returns-in-WroteBack c = record {
-  bytes = ap₂ (λ x y. codes "(ok " ++ (x ++ y)) c.natural.ensures.text c.fate-end.ensures.text ∙ ap answered (sym c.in-WroteBack.is);
-  short = simp length-append (omega (arith, c.natural.ensures.short, c.fate-end.ensures.short));
+  bytes = ap₂ (λ x y. codes "(ok " ++ (x ++ y)) c.natural.ensures.text c.fate_end.ensures.text ∙ ap answered (sym c.in-WroteBack.is);
+  short = simp length-append (omega (arith, c.natural.ensures.short, c.fate_end.ensures.short));
 }
 
 pub returns-in-Refused : goal.returns-in-Refused

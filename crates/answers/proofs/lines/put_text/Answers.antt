@@ -7,22 +7,22 @@ use Rattle.answers.proofs.lines.put_text.Goals as goal
 three : (a m b n d : List ℕ) → ((a ++ m) ++ (b ++ n)) ++ d ≡ a ++ (m ++ (b ++ (n ++ d)))
 three a m b n d = simp append_assoc
 
-pub put-one-behind-requires : goal.put-one-behind-requires
-put-one-behind-requires c = let l = one_length c.in-One.is in omega (arith, length-append c.in-One.a.now (number_text c.in-One.m))
+pub put_one-behind-requires : goal.put_one-behind-requires
+put_one-behind-requires c = let l = one_length c.in-One.is in omega (arith, length-append c.in-One.a.now (number_text c.in-One.m))
 
-pub put-word-requires-in-One : goal.put-word-requires-in-One
-put-word-requires-in-One c = let l = one_length c.in-One.is in omega (arith, length-append c.in-One.a.now (number_text c.in-One.m))
+pub put_word-requires-in-One : goal.put_word-requires-in-One
+put_word-requires-in-One c = let l = one_length c.in-One.is in omega (arith, length-append c.in-One.a.now (number_text c.in-One.m))
 
-pub put-one-first-requires : goal.put-one-first-requires
-put-one-first-requires c = let l = two_length c.in-Two.is in omega (arith, length-append c.in-Two.a.now (number_text c.in-Two.m))
+pub put_one-first-requires : goal.put_one-first-requires
+put_one-first-requires c = let l = two_length c.in-Two.is in omega (arith, length-append c.in-Two.a.now (number_text c.in-Two.m))
 
-pub put-one-second-requires : goal.put-one-second-requires
-put-one-second-requires c =
+pub put_one-second-requires : goal.put_one-second-requires
+put_one-second-requires c =
     let l = two_length c.in-Two.is in
     omega (arith, length-append c.in-Two.a.now (number_text c.in-Two.m), length-append c.in-Two.b.now (number_text c.in-Two.n))
 
-pub put-word-requires-in-Two : goal.put-word-requires-in-Two
-put-word-requires-in-Two c =
+pub put_word-requires-in-Two : goal.put_word-requires-in-Two
+put_word-requires-in-Two c =
     let l = two_length c.in-Two.is in
     omega (arith, length-append c.in-Two.a.now (number_text c.in-Two.m), length-append c.in-Two.b.now (number_text c.in-Two.n))
 
@@ -36,7 +36,7 @@ returns-in-One c =
     let long = length-append (a ++ m) b in
     let longer = length-append a m in
     record {
-      after = placed_two c.args.at _ (a ++ m) b c.args.out.now _ _ (omega arith) c.put-one-behind.ensures.after c.put-one-behind.ensures.next c.put-word-in-One.ensures.after ∙
+      after = placed_two c.args.at _ (a ++ m) b c.args.out.now _ _ (omega arith) c.put_one-behind.ensures.after c.put_one-behind.ensures.next c.put_word-in-One.ensures.after ∙
           ap (λ x. placed c.args.at x c.args.out.now) same;
       next = omega arith;
     }
@@ -54,9 +54,9 @@ returns-in-Two c =
     let k2 = length-append (a ++ m) (b ++ n) in
     let k3 = length-append a m in
     let k4 = length-append b n in
-    let both = placed_two c.args.at _ (a ++ m) (b ++ n) c.args.out.now _ _ (omega arith) c.put-one-first.ensures.after c.put-one-first.ensures.next c.put-one-second.ensures.after in
+    let both = placed_two c.args.at _ (a ++ m) (b ++ n) c.args.out.now _ _ (omega arith) c.put_one-first.ensures.after c.put_one-first.ensures.next c.put_one-second.ensures.after in
     record {
-      after = placed_two c.args.at c.put-one-second.result ((a ++ m) ++ (b ++ n)) d c.args.out.now _ _ (omega arith) both (omega arith) c.put-word-in-Two.ensures.after ∙
+      after = placed_two c.args.at c.put_one-second.result ((a ++ m) ++ (b ++ n)) d c.args.out.now _ _ (omega arith) both (omega arith) c.put_word-in-Two.ensures.after ∙
           ap (λ x. placed c.args.at x c.args.out.now) same;
       next = omega arith;
     }

@@ -8,6 +8,6 @@ pub returns : goal.returns
 returns c =
     let v = to_z w64 (of_z w64 c.args.value) in
     record {
-      text = ap₂ (λ b n. cond b (45 ∷ decimal n) (decimal n)) c.is-below-zero.ensures c.unsigned-abs.ensures.value ∙ signed_is v ∙ ap signed_decimal (to_z-of_z w64 _ c.ranges.value);
+      text = ap₂ (λ b n. cond b (45 ∷ decimal n) (decimal n)) c.is_below_zero.ensures c.unsigned_abs.ensures.value ∙ signed_is v ∙ ap signed_decimal (to_z-of_z w64 _ c.ranges.value);
       short = number_short _ (omega arith);
     }

@@ -11,6 +11,6 @@ returns-then-number c =
     let l = ap length t in
     let k = length-set s 0 45 in
     record {
-      after = minus_first (decimal c.args.number.size) s c.write-digits.new.tail _ (omega arith) (omega arith) c.write-digits.ensures.after ∙
+      after = minus_first (decimal c.args.number.size) s c.write_digits.new.tail _ (omega arith) (omega arith) c.write_digits.ensures.after ∙
           ap (λ x. x ++ drop (length x) s) (sym t);
     }

@@ -9,7 +9,7 @@ loop-slot-preserved c =
     let e : lowest_left c.loop-slot.found (drop c.loop-slot.slot-index c.args.slots.now)
     ≡ lowest_left (lower c.loop-slot.found (get_or c.args.slots.now c.loop-slot.slot-index vacant)) (drop (c.loop-slot.slot-index + 1) c.args.slots.now)
     = at_drop_more (lowest_left c.loop-slot.found) c.args.slots.now c.loop-slot.slot-index vacant c.loop-slot-test.true
-    in ap (λ f. lowest_left f (drop (c.loop-slot.slot-index + 1) c.args.slots.now)) c.lower-of-found.ensures ∙ sym e ∙ c.loop-slot.invariant
+    in ap (λ f. lowest_left f (drop (c.loop-slot.slot-index + 1) c.args.slots.now)) c.lower_of-found.ensures ∙ sym e ∙ c.loop-slot.invariant
 
 pub loop-slot-init : goal.loop-slot-init
 loop-slot-init c = refl

@@ -6,14 +6,14 @@ use Rattle.inner.proofs.slots.place_on.Goals as goal
 
 pub loop-i-preserved : goal.loop-i-preserved
 loop-i-preserved c =
-    place_more (λ s. on s c.args.element.0) c.args.slots.now c.loop-i.i vacant c.loop-i-test.true (sym c.is-on.ensures ∙ c.if-is-on.false) c.loop-i.invariant
+    place_more (λ s. on s c.args.element.0) c.args.slots.now c.loop-i.i vacant c.loop-i-test.true (sym c.is_on.ensures ∙ c.if-is_on.false) c.loop-i.invariant
 
 pub loop-i-init : goal.loop-i-init
 loop-i-init c = omega arith
 
-pub returns-then-is-on : goal.returns-then-is-on
-returns-then-is-on c =
-    place_found (λ s. on s c.args.element.0) c.args.slots.now c.loop-i.i vacant c.loop-i-test.true (sym c.is-on.ensures ∙ c.if-is-on.true) c.loop-i.invariant
+pub returns-then-is_on : goal.returns-then-is_on
+returns-then-is_on c =
+    place_found (λ s. on s c.args.element.0) c.args.slots.now c.loop-i.i vacant c.loop-i-test.true (sym c.is_on.ensures ∙ c.if-is_on.true) c.loop-i.invariant
 
 pub returns : goal.returns
 returns c = place_none (λ s. on s c.args.element.0) c.args.slots.now c.loop-i.i c.loop-i-test.false c.loop-i.auto.i-end c.loop-i.invariant

@@ -8,10 +8,10 @@ use Rattle.items.proofs.cutter.next_item.Goals as goal
 pub returns-then-at-line : goal.returns-then-at-line
 returns-then-at-line c =
     let line = c.args.line.now in
-    let e : items_from line (min c.args.from (length line)) ≡ (c.skip-spaces-at.result + 1, line_end) ∷ [] = ap (items_from line) (sym c.min.ensures) ∙ skipped line c.min.result _ c.skip-spaces-at.ensures.value ∙ first_end line c.skip-spaces-at.result (omega arith) in
+    let e : items_from line (min c.args.from (length line)) ≡ (c.skip_spaces-at.result + 1, line_end) ∷ [] = ap (items_from line) (sym c.min.ensures) ∙ skipped line c.min.result _ c.skip_spaces-at.ensures.value ∙ first_end line c.skip_spaces-at.result (omega arith) in
     record {
-      first = e ∙ ap (λ p. (p, line_end) ∷ []) (sym c.place-at.ensures);
-      on = ap behind e ∙ sym (first_end line c.skip-spaces-at.result (omega arith));
+      first = e ∙ ap (λ p. (p, line_end) ∷ []) (sym c.place_at.ensures);
+      on = ap behind e ∙ sym (first_end line c.skip_spaces-at.result (omega arith));
       cut = tt;
       next = omega arith;
       within = omega arith;
@@ -20,9 +20,9 @@ returns-then-at-line c =
 pub returns-in-40 : goal.returns-in-40
 returns-in-40 c =
     let line = c.args.line.now in
-    let e : items_from line (min c.args.from (length line)) ≡ (c.skip-spaces-at.result + 1, opening) ∷ items_from line (c.skip-spaces-at.result + 1) = ap (items_from line) (sym c.min.ensures) ∙ skipped line c.min.result _ c.skip-spaces-at.ensures.value ∙ first_open line c.skip-spaces-at.result (omega arith) c.in-40.is in
+    let e : items_from line (min c.args.from (length line)) ≡ (c.skip_spaces-at.result + 1, opening) ∷ items_from line (c.skip_spaces-at.result + 1) = ap (items_from line) (sym c.min.ensures) ∙ skipped line c.min.result _ c.skip_spaces-at.ensures.value ∙ first_open line c.skip_spaces-at.result (omega arith) c.in-40.is in
     record {
-      first = e ∙ ap (λ p. (p, opening) ∷ items_from line (c.skip-spaces-at.result + 1)) (sym c.place-at-in-40.ensures);
+      first = e ∙ ap (λ p. (p, opening) ∷ items_from line (c.skip_spaces-at.result + 1)) (sym c.place_at-in-40.ensures);
       on = ap behind e;
       cut = tt;
       next = omega arith;
@@ -32,9 +32,9 @@ returns-in-40 c =
 pub returns-in-41 : goal.returns-in-41
 returns-in-41 c =
     let line = c.args.line.now in
-    let e : items_from line (min c.args.from (length line)) ≡ (c.skip-spaces-at.result + 1, closing) ∷ items_from line (c.skip-spaces-at.result + 1) = ap (items_from line) (sym c.min.ensures) ∙ skipped line c.min.result _ c.skip-spaces-at.ensures.value ∙ first_close line c.skip-spaces-at.result (omega arith) c.in-41.is in
+    let e : items_from line (min c.args.from (length line)) ≡ (c.skip_spaces-at.result + 1, closing) ∷ items_from line (c.skip_spaces-at.result + 1) = ap (items_from line) (sym c.min.ensures) ∙ skipped line c.min.result _ c.skip_spaces-at.ensures.value ∙ first_close line c.skip_spaces-at.result (omega arith) c.in-41.is in
     record {
-      first = e ∙ ap (λ p. (p, closing) ∷ items_from line (c.skip-spaces-at.result + 1)) (sym c.place-at-in-41.ensures);
+      first = e ∙ ap (λ p. (p, closing) ∷ items_from line (c.skip_spaces-at.result + 1)) (sym c.place_at-in-41.ensures);
       on = ap behind e;
       cut = tt;
       next = omega arith;
@@ -44,13 +44,13 @@ returns-in-41 c =
 pub returns-in-Some : goal.returns-in-Some
 returns-in-Some c =
     let line = c.args.line.now in
-    let at = c.skip-spaces-at.result in
+    let at = c.skip_spaces-at.result in
     let f : SFits w64 c.in-Some.value = search rules in
     let z : c.in-Some.value ≡ to_z w64 (of_z w64 c.in-Some.value) = sym (to_z-of_z w64 _ f) in
-    let t = text_is_run line at c.run-end-end.result c.run-end-end.ensures.value in
-    let e : items_from line (min c.args.from (length line)) ≡ (at + 1, number (to_z w64 (of_z w64 c.in-Some.value))) ∷ items_from line c.run-end-end.result = ap (items_from line) (sym c.min.ensures) ∙ run_cut line c.min.result at c.run-end-end.result (Some c.in-Some.value) c.skip-spaces-at.ensures.value (omega arith) (omega arith) (omega arith) c.run-end-end.ensures.value c.in-Some.ensures.value ∙ ap (λ x. (at + 1, number x) ∷ items_from line c.run-end-end.result) z in
+    let t = text_is_run line at c.run_end-end.result c.run_end-end.ensures.value in
+    let e : items_from line (min c.args.from (length line)) ≡ (at + 1, number (to_z w64 (of_z w64 c.in-Some.value))) ∷ items_from line c.run_end-end.result = ap (items_from line) (sym c.min.ensures) ∙ run_cut line c.min.result at c.run_end-end.result (Some c.in-Some.value) c.skip_spaces-at.ensures.value (omega arith) (omega arith) (omega arith) c.run_end-end.ensures.value c.in-Some.ensures.value ∙ ap (λ x. (at + 1, number x) ∷ items_from line c.run_end-end.result) z in
     record {
-      first = e ∙ ap (λ p. (p, number (to_z w64 (of_z w64 c.in-Some.value))) ∷ items_from line c.run-end-end.result) (sym c.place-at-in-Some.ensures);
+      first = e ∙ ap (λ p. (p, number (to_z w64 (of_z w64 c.in-Some.value))) ∷ items_from line c.run_end-end.result) (sym c.place_at-in-Some.ensures);
       on = ap behind e;
       cut = (t ∙ ap (λ n. run_of (drop n line)) (omega arith), subst (Numeral _) z c.in-Some.ensures.means);
       next = omega (arith, ap length t);
@@ -60,11 +60,11 @@ returns-in-Some c =
 pub returns-in-None : goal.returns-in-None
 returns-in-None c =
     let line = c.args.line.now in
-    let at = c.skip-spaces-at.result in
-    let t = text_is_run line at c.run-end-end.result c.run-end-end.ensures.value in
-    let e : items_from line (min c.args.from (length line)) ≡ (at + 1, word _) ∷ items_from line c.run-end-end.result = ap (items_from line) (sym c.min.ensures) ∙ run_cut line c.min.result at c.run-end-end.result None c.skip-spaces-at.ensures.value (omega arith) (omega arith) (omega arith) c.run-end-end.ensures.value c.in-None.ensures.value in
+    let at = c.skip_spaces-at.result in
+    let t = text_is_run line at c.run_end-end.result c.run_end-end.ensures.value in
+    let e : items_from line (min c.args.from (length line)) ≡ (at + 1, word _) ∷ items_from line c.run_end-end.result = ap (items_from line) (sym c.min.ensures) ∙ run_cut line c.min.result at c.run_end-end.result None c.skip_spaces-at.ensures.value (omega arith) (omega arith) (omega arith) c.run_end-end.ensures.value c.in-None.ensures.value in
     record {
-      first = e ∙ ap (λ p. (p, word (take (c.run-end-end.result - at) (drop at line))) ∷ items_from line c.run-end-end.result) (sym c.place-at-in-None.ensures);
+      first = e ∙ ap (λ p. (p, word (take (c.run_end-end.result - at) (drop at line))) ∷ items_from line c.run_end-end.result) (sym c.place_at-in-None.ensures);
       on = ap behind e;
       cut = t ∙ ap (λ n. run_of (drop n line)) (omega arith);
       next = omega (arith, ap length t);

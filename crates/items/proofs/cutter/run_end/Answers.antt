@@ -5,12 +5,12 @@ use Rattle.items.proofs.cutter.run_end.Goals as goal
 
 pub loop-at-preserved : goal.loop-at-preserved
 loop-at-preserved c =
-    let e = run_more c.args.line.now c.loop-at.at (omega arith) ∙ cond-false _ _ _ (not-true _ (sym c.if-runs-on.ensures)) in
+    let e = run_more c.args.line.now c.loop-at.at (omega arith) ∙ cond-false _ _ _ (not-true _ (sym c.if-runs_on.ensures)) in
     (omega arith, omega arith)
 
-pub returns-else-runs-on : goal.returns-else-runs-on
-returns-else-runs-on c =
-    let e = run_more c.args.line.now c.loop-at.at (omega arith) ∙ cond-true _ _ _ (not-false _ (sym c.if-runs-on.ensures)) in
+pub returns-else-runs_on : goal.returns-else-runs_on
+returns-else-runs_on c =
+    let e = run_more c.args.line.now c.loop-at.at (omega arith) ∙ cond-true _ _ _ (not-false _ (sym c.if-runs_on.ensures)) in
     record { value = omega arith; within = omega arith }
 
 pub returns-after-loop-at : goal.returns-after-loop-at

@@ -19,25 +19,25 @@ returns-in-k c =
     let b = ten_at_most c.loop-i.count c.loop-i.value (omega arith) (omega arith) in
     record { value = grind (arith, nat_tests); bound = omega arith }
 
-pub returns-then-is-full : goal.returns-then-is-full
-returns-then-is-full c =
+pub returns-then-is_full : goal.returns-then-is_full
+returns-then-is_full c =
     let e = scan_more c.loop-i.count c.loop-i.value c.args.text.now c.loop-i.i (omega arith) in
     record { value = grind (arith, nat_tests); bound = tt }
 
-pub returns-in-default : goal.returns-in-default
-returns-in-default c =
+pub returns-in_default : goal.returns-in_default
+returns-in_default c =
     let e = scan_more c.loop-i.count c.loop-i.value c.args.text.now c.loop-i.i (omega arith) in
     record { value = grind (arith, nat_tests); bound = tt }
 
-pub returns-in-default·2 : goal.returns-in-default·2
-returns-in-default·2 c =
+pub returns-in_default-2 : goal.returns-in_default-2
+returns-in_default-2 c =
     let e = scan_more c.loop-i.count c.loop-i.value c.args.text.now c.loop-i.i (omega arith) in
     record { value = grind (arith, nat_tests); bound = tt }
 
 pub loop-i-preserved : goal.loop-i-preserved
 loop-i-preserved c =
     let e = scan_more c.loop-i.count c.loop-i.value c.args.text.now c.loop-i.i (omega arith) in
-    let full = eqb-false _ 10 (sym c.if-is-full.ensures) in
+    let full = eqb-false _ 10 (sym c.if-is_full.ensures) in
     (grind (arith, nat_tests), omega arith, ten_more c.loop-i.count c.loop-i.value _ (omega arith) (omega arith))
 
 pub returns-then-count-eq0-2 : goal.returns-then-count-eq0-2

@@ -3,4 +3,4 @@ use Rattle.std.proofs.lemmas.List.{length-take}
 use Rattle.plant.proofs.number_list.put_entry.Goals as goal
 
 pub bounds-entries-element : goal.bounds-entries-element
-bounds-entries-element c = omega (arith, c.entry-count.ensures.value, length-take 256 c.args.entries.now)
+bounds-entries-element c = omega (arith, c.entry_count.ensures.value, length-take 256 c.args.entries.now)

@@ -4,7 +4,7 @@ use Rattle.script.specs.Reading.{line_items}
 use Rattle.script.specs.Steps.{search_of}
 use Rattle.script.proofs.Searching.{search_skips, search_passes, search_finds, search_ends}
 use Rattle.script.proofs.reader.find_form.Goals as goal
-use Rattle.script.proofs.reader.find_form.Goals.{then-is-allowed+in-Stops, else-is-allowed}
+use Rattle.script.proofs.reader.find_form.Goals.{then-is_allowed+in-Stops, else-is_allowed}
 
 pub loop-shape-init : goal.loop-shape-init
 loop-shape-init c = refl
@@ -14,21 +14,21 @@ loop-shape-preserved c =
     let its = line_items c.args.line.now in
     let f = c.loop-shape.furthest in
     let i = c.loop-shape.shape-index in
-    elim c.if-is-allowed.branch [
-      | then-is-allowed+in-Stops w ↦
+    elim c.if-is_allowed.branch [
+      | then-is_allowed+in-Stops w ↦
           ap (λ b. search_of c.args.opened its b (drop (i + 1) shapes)) (w.furthest_is ∙ w.max-furthest.ensures) ∙
-          sym (search_passes c.args.opened its f shapes i w.in-Stops.place (omega arith) (sym w.if-is-allowed.ensures) (sym w.in-Stops.ensures)) ∙
+          sym (search_passes c.args.opened its f shapes i w.in-Stops.place (omega arith) (sym w.if-is_allowed.ensures) (sym w.in-Stops.ensures)) ∙
           c.loop-shape.invariant
-      | else-is-allowed w ↦
+      | else-is_allowed w ↦
           ap (λ b. search_of c.args.opened its b (drop (i + 1) shapes)) w.furthest_is ∙
-          sym (search_skips c.args.opened its f shapes i (omega arith) (sym w.if-is-allowed.ensures)) ∙
+          sym (search_skips c.args.opened its f shapes i (omega arith) (sym w.if-is_allowed.ensures)) ∙
           c.loop-shape.invariant
     ]
 
 pub returns-in-Whole : goal.returns-in-Whole
 returns-in-Whole c =
-    ap Ok c.make-form.ensures ∙
-    sym (search_finds c.args.opened (line_items c.args.line.now) c.loop-shape.furthest shapes c.loop-shape.shape-index c.in-Whole.numbers (omega arith) (sym c.if-is-allowed.ensures) (sym c.in-Whole.ensures)) ∙
+    ap Ok c.make_form.ensures ∙
+    sym (search_finds c.args.opened (line_items c.args.line.now) c.loop-shape.furthest shapes c.loop-shape.shape-index c.in-Whole.numbers (omega arith) (sym c.if-is_allowed.ensures) (sym c.in-Whole.ensures)) ∙
     c.loop-shape.invariant
 
 pub returns : goal.returns

@@ -16,21 +16,21 @@ same false false = refl
 turn : (a b v i o : Bool) → a ≡ o → i ≡ not b → beq a b ≡ v → cond i (not o) o ≡ v
 turn a b v i o p q r = ap₂ (λ x y. cond x (not y) y) q (sym p) ∙ same a b ∙ r
 
-pub returns-then-is-open-is-none : goal.returns-then-is-open-is-none
-returns-then-is-open-is-none c =
-    let short = sym c.if-is-too-long.ensures in
+pub returns-then-is_open-is_none : goal.returns-then-is_open-is_none
+returns-then-is_open-is_none c =
+    let short = sym c.if-is_too_long.ensures in
     let found = sym c.in-Ok.ensures in
-    let right = turn _ _ _ _ _ c.is-open.ensures c.is-none.ensures c.if-is-open-is-none.true in
+    let right = turn _ _ _ _ _ c.is_open.ensures c.is_none.ensures c.if-is_open-is_none.true in
     record {
       means = reads c.in-Ok.form (ltb-false 120 _ short) (spells c.args.opened c.args.line.now c.in-Ok.form found) right refl;
       value = sym (cond-false (ltb 120 (length c.args.line.now)) _ _ short ∙ ap (judged c.args.opened) found ∙ cond-true _ _ _ right);
     }
 
-pub returns-else-is-open-is-none : goal.returns-else-is-open-is-none
-returns-else-is-open-is-none c =
-    let short = sym c.if-is-too-long.ensures in
+pub returns-else-is_open-is_none : goal.returns-else-is_open-is_none
+returns-else-is_open-is_none c =
+    let short = sym c.if-is_too_long.ensures in
     let found = sym c.in-Ok.ensures in
-    let wrong = turn _ _ _ _ _ c.is-open.ensures c.is-none.ensures c.if-is-open-is-none.false in
+    let wrong = turn _ _ _ _ _ c.is_open.ensures c.is_none.ensures c.if-is_open-is_none.false in
     record {
       means = out_of_turn c.in-Ok.form (ltb-false 120 _ short) (spells c.args.opened c.args.line.now c.in-Ok.form found) wrong refl;
       value = sym (cond-false (ltb 120 (length c.args.line.now)) _ _ short ∙ ap (judged c.args.opened) found ∙ cond-false _ _ _ wrong);
@@ -38,7 +38,7 @@ returns-else-is-open-is-none c =
 
 pub returns-in-Err : goal.returns-in-Err
 returns-in-Err c =
-    let short = sym c.if-is-too-long.ensures in
+    let short = sym c.if-is_too_long.ensures in
     let none = sym c.in-Err.ensures in
     record {
       means = no_form c.in-Err.place (ltb-false 120 _ short) (sticks c.args.opened c.args.line.now c.in-Err.place none) refl;

@@ -11,4 +11,4 @@ returns-then-c-ge16 c =
     e ∙ ap (λ x. ltb (count_below 256 (λ e. is_some (lock_in x.slots e))) 32) (past_clients c.args.self.now.inner (sound_of c.args.self.now) c.args.client.0 c.if-c-ge16.true)
 
 pub returns : goal.returns
-returns c = room_left c.args.self.now.inner (sound_of c.args.self.now) c.args.client.0 c.if-c-ge16.false c.free-place-of.result c.free-place-of.ensures
+returns c = room_left c.args.self.now.inner (sound_of c.args.self.now) c.args.client.0 c.if-c-ge16.false c.free_place_of.result c.free_place_of.ensures

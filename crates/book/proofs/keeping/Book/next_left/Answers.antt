@@ -10,7 +10,7 @@ returns-then-c-ge16 c =
     (omega arith)
 
 pub returns-then-lowest-ge256 : goal.returns-then-lowest-ge256
-returns-then-lowest-ge256 c = left_none c.args.self.now.inner (sound_of c.args.self.now) c.args.client.0 c.lowest-left-lowest.result c.lowest-left-lowest.ensures c.if-lowest-ge256.true
+returns-then-lowest-ge256 c = left_none c.args.self.now.inner (sound_of c.args.self.now) c.args.client.0 c.lowest_left-lowest.result c.lowest_left-lowest.ensures c.if-lowest-ge256.true
 
 pub returns-else-lowest-ge256 : goal.returns-else-lowest-ge256
-returns-else-lowest-ge256 c = left_some c.args.self.now.inner (sound_of c.args.self.now) c.args.client.0 c.lowest-left-lowest.result c.lowest-left-lowest.ensures c.if-lowest-ge256.false
+returns-else-lowest-ge256 c = left_some c.args.self.now.inner (sound_of c.args.self.now) c.args.client.0 c.lowest_left-lowest.result c.lowest_left-lowest.ensures c.if-lowest-ge256.false

@@ -2,4 +2,4 @@ use Rattle.std.proofs.Common.{rules}
 use Rattle.engine.proofs.opening.Engine.change.Goals as goal
 
 pub returns : goal.returns
-returns g c = let h = c.set-lock.ensures (g.T.Table.meaning c.args.self.now.table) in search rules
+returns g c = let h = c.set_lock.ensures (g.T.Table.meaning c.args.self.now.table) in search rules

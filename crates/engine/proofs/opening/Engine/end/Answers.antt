@@ -8,6 +8,6 @@ pub returns : goal.returns
 returns g c =
     let m = g.T.Table.meaning c.args.self.now.table in
     let s = model m c.args.self.now.book.inner in
-    end_done s (model m c.leave.new.self.inner) c.args.client.0 c.in-ok-after.after c.in-ok-after.ensures
-    (sym (same_left c.next_left.result (next_left s c.args.client.0) c.next_left.ensures) ∙ sym c.is-some.ensures ∙ c.if-is-some.false)
+    end_done s (model m c.leave.new.self.inner) c.args.client.0 c.in_ok-after.after c.in_ok-after.ensures
+    (sym (same_left c.next_left.result (next_left s c.args.client.0) c.next_left.ensures) ∙ sym c.is_some.ensures ∙ c.if-is_some.false)
     (c.leave.ensures m)

@@ -9,15 +9,15 @@ use Rattle.engine.proofs.opening.Engine.win.Goals as goal
 
 pub grant-requires : goal.grant-requires
 grant-requires g c =
-    (c.requires.0, (c.requires.1.0, room_kept c.args.self.now.book.inner c.throw-out.new.self.inner c.args.client.0 c.args.kind c.args.element.0 c.throw-out.ensures c.requires.1.1.1))
+    (c.requires.0, (c.requires.1.0, room_kept c.args.self.now.book.inner c.throw_out.new.self.inner c.args.client.0 c.args.kind c.args.element.0 c.throw_out.ensures c.requires.1.1.1))
 
 pub returns : goal.returns
 returns g c =
     let m = g.T.Table.meaning c.args.self.now.table in
-    let found : number m c.args.element.0 ≡ c.in-ok-found.found = got_number m c.args.element.0 c.in-ok-found.found c.requires.1.1.0 c.in-ok-found.ensures.value in
-    let won : model m c.grant.new.self.inner ≡ gain c.args.client.0 c.args.kind c.args.element.0 (model m c.throw-out.new.self.inner) = c.grant.ensures m (search rules) in
-    ap (λ x. answered x Done) (won ∙ ap (gain c.args.client.0 c.args.kind c.args.element.0) (c.throw-out.ensures m))
+    let found : number m c.args.element.0 ≡ c.in_ok-found.found = got_number m c.args.element.0 c.in_ok-found.found c.requires.1.1.0 c.in_ok-found.ensures.value in
+    let won : model m c.grant.new.self.inner ≡ gain c.args.client.0 c.args.kind c.args.element.0 (model m c.throw_out.new.self.inner) = c.grant.ensures m (search rules) in
+    ap (λ x. answered x Done) (won ∙ ap (gain c.args.client.0 c.args.kind c.args.element.0) (c.throw_out.ensures m))
 
-pub returns-in-err-found : goal.returns-in-err-found
-returns-in-err-found g c =
-    not_refused (g.T.Table.meaning c.args.self.now.table) c.args.element.0 _ c.requires.1.1.0 c.in-err-found.ensures.value _ _
+pub returns-in_err-found : goal.returns-in_err-found
+returns-in_err-found g c =
+    not_refused (g.T.Table.meaning c.args.self.now.table) c.args.element.0 _ c.requires.1.1.0 c.in_err-found.ensures.value _ _

@@ -8,6 +8,6 @@ unfolding no_locks
 returns c =
     λ i. record {
       clients = set c.args.self.now.clients c.args.client (record { state = c.args.state; slots = no_locks });
-      cells = c.release-all.ensures i;
+      cells = c.release_all.ensures i;
       ties = c.args.self.now.ties;
     }
