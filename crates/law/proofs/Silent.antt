@@ -112,5 +112,5 @@ pub kept_as : {start : ℤ} {now : ℕ} {clients : ℕ → ClientState} {begun :
     Kept start now X A clients begun locks own marked second number → Kept start now X' A' clients begun locks' own' marked' second' number'
 kept_as {start} {now} {clients} {begun} x a l o m s n k =
     subst (λ (z : record { X : List Placed; A : List Placed; locks : ℕ → Option Lock; own : ℕ → List Touch; marked : Bool; second : Option ℤ; number : ℤ }).
-    Kept start now z.X z.A clients begun z.locks z.own_val z.marked z.second z.number)
+    Kept start now z.X z.A clients begun z.locks z.own z.marked z.second z.number)
     (λ i. record { X = x i; A = a i; locks = l i; own = o i; marked = m i; second = s i; number = n i }) k

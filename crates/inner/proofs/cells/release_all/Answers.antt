@@ -9,8 +9,8 @@ use Rattle.inner.proofs.cells.release_all.Goals.{then-slot-i, else-slot-i}
 
 one : (c : goal.Joined-slot-i) → c.if-slot-i.cells ≡ release_slot c.loop-slot.cells (get_or c.args.slots.now c.loop-slot.slot-index vacant)
 one c = elim c.if-slot-i.branch [
-  | then-slot-i w ↦ release_done c.loop-slot.cells (get_or c.args.slots.now c.loop-slot.slot-index vacant) w.release.new.self c.if-slot-i.cells w.if-slot-i.true w.release.ensures w.cells_is
-  | else-slot-i w ↦ release_none c.loop-slot.cells (get_or c.args.slots.now c.loop-slot.slot-index vacant) c.if-slot-i.cells w.if-slot-i.false w.cells_is
+  | then-slot-i w ↦ release_done c.loop-slot.cells (get_or c.args.slots.now c.loop-slot.slot-index vacant) w.release.new.self c.if-slot-i.cells w.if-slot-i.true w.release.ensures w.cells-is
+  | else-slot-i w ↦ release_none c.loop-slot.cells (get_or c.args.slots.now c.loop-slot.slot-index vacant) c.if-slot-i.cells w.if-slot-i.false w.cells-is
 ]
 
 pub loop-slot-preserved : goal.loop-slot-preserved

@@ -16,11 +16,11 @@ loop-shape-preserved c =
     let i = c.loop-shape.shape-index in
     elim c.if-is_allowed.branch [
       | then-is_allowed+in-Stops w ↦
-          ap (λ b. search_of c.args.opened its b (drop (i + 1) shapes)) (w.furthest_is ∙ w.max-furthest.ensures) ∙
+          ap (λ b. search_of c.args.opened its b (drop (i + 1) shapes)) (w.furthest-is ∙ w.max-furthest.ensures) ∙
           sym (search_passes c.args.opened its f shapes i w.in-Stops.place (omega arith) (sym w.if-is_allowed.ensures) (sym w.in-Stops.ensures)) ∙
           c.loop-shape.invariant
       | else-is_allowed w ↦
-          ap (λ b. search_of c.args.opened its b (drop (i + 1) shapes)) w.furthest_is ∙
+          ap (λ b. search_of c.args.opened its b (drop (i + 1) shapes)) w.furthest-is ∙
           sym (search_skips c.args.opened its f shapes i (omega arith) (sym w.if-is_allowed.ensures)) ∙
           c.loop-shape.invariant
     ]

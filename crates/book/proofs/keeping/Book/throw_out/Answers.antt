@@ -14,8 +14,8 @@ loop-d-init c = λ m. leave_start (λ d. blocks c.args.self.now.inner c.args.cli
 pub loop-d-preserved : goal.loop-d-preserved
 loop-d-preserved c = elim c.if-blocked_by.branch [
   | then-blocked_by w ↦ thrown_more c.args.self.now.inner c.loop-d.self.inner c.args.client.0 c.args.kind c.args.element.0 c.loop-d.d c.loop-d.invariant c.if-blocked_by.self.inner c.loop-d-test.true (sym c.blocked_by.ensures ∙ w.if-blocked_by.true)
-      (λ m. ap (λ b. model m b.inner) w.self_is ∙ w.leave.ensures m)
-  | else-blocked_by w ↦ thrown_past c.args.self.now.inner c.loop-d.self.inner c.args.client.0 c.args.kind c.args.element.0 c.loop-d.d c.loop-d.invariant c.if-blocked_by.self.inner (sym c.blocked_by.ensures ∙ w.if-blocked_by.false) (ap (λ b. b.inner) w.self_is)
+      (λ m. ap (λ b. model m b.inner) w.self-is ∙ w.leave.ensures m)
+  | else-blocked_by w ↦ thrown_past c.args.self.now.inner c.loop-d.self.inner c.args.client.0 c.args.kind c.args.element.0 c.loop-d.d c.loop-d.invariant c.if-blocked_by.self.inner (sym c.blocked_by.ensures ∙ w.if-blocked_by.false) (ap (λ b. b.inner) w.self-is)
 ]
 
 pub returns : goal.returns
