@@ -27,8 +27,8 @@ use Rattle.book.proofs.SoundLaws.{sound_slot, sound_gain, sound_raise}
 use Rattle.book.proofs.ModelLaws.{slot_locks, slot_clients, model_grant, mark_new}
 
 -- What is owed of a changed book, from what it was changed to.
-pub owed : (n after : Inner) → n ≡ after → Sound after → Sized n × (Counted n × Unit {0})
-owed n after e sound = let P : Inner → Type 0 = λ x. Sound x in let s = subst P (sym e) sound in (s.0, (s.1, tt))
+pub owed : (n after : Inner) → n ≡ after → Sound after → record { sized : Sized n; counted : Counted n }
+owed n after e sound = let P : Inner → Type 0 = λ x. Sound x in let s = subst P (sym e) sound in record { sized = s.0; counted = s.1 }
 
 -- There are at most as many locks on an element as clients.
 pub few_locks : (rs : List ClientRecord) (e : ℕ) → ((c : ℕ) → locks_on (get_or rs c nobody).slots e ≤ 1) → all_locks rs e ≤ length rs

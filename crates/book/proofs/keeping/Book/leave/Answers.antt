@@ -7,8 +7,8 @@ use Rattle.book.proofs.ReadLaws.{sound_of}
 use Rattle.book.proofs.ChangeLaws.{owed}
 use Rattle.book.proofs.keeping.Book.leave.Goals as goal
 
-pub invariant-of-self : goal.invariant-of-self
-invariant-of-self c =
+pub invariant_of-self : goal.invariant_of-self
+invariant_of-self c =
     owed c.leave.new.self (left c.args.self.now.inner c.args.client.0 c.args.after) c.leave.ensures
     (sound_left c.args.self.now.inner (sound_of c.args.self.now) c.args.client.0 c.args.after c.requires)
 

@@ -9,8 +9,8 @@ use Rattle.book.proofs.keeping.Book.raise_lock.Goals as goal
 pub set_slot-requires : goal.set_slot-requires
 set_slot-requires c = (c.requires.0, place_small c.args.self.now.inner (sound_of c.args.self.now) c.args.client.0 c.args.element.0 c.requires.0 (ap is_some c.requires.1.1) c.place_of-place.result c.place_of-place.ensures)
 
-pub invariant-of-self : goal.invariant-of-self
-invariant-of-self c =
+pub invariant_of-self : goal.invariant_of-self
+invariant_of-self c =
     let p : c.set_slot.new.self ≡ with_slot c.args.self.now.inner c.args.client.0 c.place_of-place.result (slot_on (record { kind = c.args.kind; copy = c.args.held.copy; changed = c.args.held.changed; taken = c.args.held.taken }) c.args.element.0) = search rules in
     let q : c.raise.new.self ≡ with_cell c.set_slot.new.self c.args.element.0 (raised (cell_of c.set_slot.new.self c.args.element.0) c.args.kind c.args.second) = search rules in
     owed c.raise.new.self _ (both_set c.args.self.now.inner c.set_slot.new.self c.raise.new.self c.args.client.0 c.place_of-place.result c.args.element.0 (slot_on (record { kind = c.args.kind; copy = c.args.held.copy; changed = c.args.held.changed; taken = c.args.held.taken }) c.args.element.0) (λ x. raised x c.args.kind c.args.second) p q) (raise_sound c.args.self.now.inner (sound_of c.args.self.now) c.args.client.0 c.args.element.0 c.requires.0 (ap is_some c.requires.1.1) c.place_of-place.result c.place_of-place.ensures (record { kind = c.args.kind; copy = c.args.held.copy; changed = c.args.held.changed; taken = c.args.held.taken }) c.args.kind c.args.second)

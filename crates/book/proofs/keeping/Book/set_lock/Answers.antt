@@ -9,8 +9,8 @@ pub set_slot-requires : goal.set_slot-requires
 set_slot-requires c =
     (c.requires.0, place_small c.args.self.now.inner (sound_of c.args.self.now) c.args.client.0 c.args.element.0 c.requires.0 c.requires.1 c.place_of-place.result c.place_of-place.ensures)
 
-pub invariant-of-self : goal.invariant-of-self
-invariant-of-self c =
+pub invariant_of-self : goal.invariant_of-self
+invariant_of-self c =
     owed c.set_slot.new.self (with_slot c.args.self.now.inner c.args.client.0 c.place_of-place.result (slot_on c.args.lock c.args.element.0)) c.set_slot.ensures
     (other_sound c.args.self.now.inner (sound_of c.args.self.now) c.args.client.0 c.args.element.0 c.requires.0 c.requires.1 c.place_of-place.result c.place_of-place.ensures c.args.lock)
 
