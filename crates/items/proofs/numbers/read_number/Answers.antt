@@ -1,6 +1,5 @@
 use Rattle.std.proofs.Common.{◌≡◌, pos, neg_ℤ, Some, None, sym, ap, ◌∙◌, arith}
 use Rattle.std.specs.Option.{option_map}
-use Rattle.std.proofs.lemmas.List.{nil_from_length}
 use Rattle.std.proofs.lemmas.Int.{ints}
 use Rattle.items.specs.Numerals.{number_of}
 use Rattle.items.proofs.Scanning.{number_minus, number_plain}
@@ -19,11 +18,6 @@ returns-in-None c =
     let e = number_minus c.args.text.now (omega arith) c.in-45.is in
     let b = c.in-None.ensures in
     let v : None ≡ number_of c.args.text.now = ap (option_map (λ n. neg_ℤ (pos n))) b.value ∙ sym e in
-    record { value = v; means = number_means _ _ v }
-
-pub returns-then-text-eq0 : goal.returns-then-text-eq0
-returns-then-text-eq0 c =
-    let v : None ≡ number_of c.args.text.now = sym (ap number_of (nil_from_length c.args.text.now (omega arith))) in
     record { value = v; means = number_means _ _ v }
 
 pub returns-in-Some-magnitude : goal.returns-in-Some-magnitude
