@@ -1,5 +1,5 @@
 -- The changes of the book: each keeps it sound and is one of the rules' changes.
-use Rattle.std.proofs.Common.{◌≡◌, ℕ, suc, ◌+◌, ◌<◌, ◌≤◌, Bool, true, false, cond, not, ◌&&◌, ◌||◌, eqb, ltb, List, [], ◌∷◌, length, get_or, set, ℤ, pos, is_some, Some, None, sym, refl, ap, ◌∙◌, subst, arith}
+use Rattle.std.proofs.Common.{◌≡◌, ℕ, suc, ◌+◌, ◌<◌, ◌≤◌, Bool, true, false, cond, not, ◌&&◌, ◌||◌, eqb, ltb, List, [], ◌∷◌, length, get_or, ℤ, pos, is_some, Some, None, sym, refl, ap, ◌∙◌, subst, arith}
 use Rattle.std.proofs.lemmas.Bool.{cond-false, and_left, and_right, le-ltb, eq-eqb, eqb-true, and_parts, not-true, ltb-true}
 use Rattle.plant.specs.Meaning.{Meaning, number}
 use Rattle.rules.specs.State.{is_write}

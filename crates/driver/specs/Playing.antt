@@ -1,5 +1,5 @@
 -- What a line of a script brings about: before the open, and after it.
-use Rattle.std.specs.Prelude.{◌≡◌, ℕ, ◌≤◌, Bool, List, Some, None, Ok, Err, Option, Result}
+use Rattle.std.specs.Prelude.{◌≡◌, ℕ, Bool, List, Some, None, Ok, Err, Option, Result}
 use Rattle.plant.specs.Meaning.{Meaning}
 use Rattle.rules.specs.Step.{step, ranks_after}
 use Rattle.rules.specs.declared.Call.{Call}

@@ -8,7 +8,7 @@ use Rattle.rules.specs.declared.Call.{Call}
 use Rattle.rules.specs.declared.Answer.{Answer}
 use Rattle.law.specs.History.{Leads}
 use Rattle.law.proofs.RunLaw.{every_run}
-use Rattle.engine.specs.Running.{RunsTo, LawGoesOn}
+use Rattle.engine.specs.Running.{LawGoesOn}
 
 pub goes_on : {K : Type 0} (above : K → K → Bool) → Order above → (found : State) (ranks : List K) (call : Call K) (answer : Answer) (left : State) →
     answered left answer ≡ step above found ranks call → LawGoesOn above found ranks call answer left

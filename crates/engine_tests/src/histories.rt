@@ -5,7 +5,6 @@ use plant::{Element, Image, NumberList, Refusal, Table};
 use ranks::{Client, Due, Grade, Rank};
 use rules::{Answer, Call, Fate, LockKind, Pointer};
 use std::process::Abort;
-use std::test::Fail;
 
 // The history, call by call. Client 1 stands above client 2, and takes the element that client 2 reads. It changes
 // two elements and commits, while a hard write comes to one of them. Then client 2 looks at the other one.
@@ -89,65 +88,71 @@ const OVER_ZEROS: [Answer; 21] = [
 // Makes the calls one after the other, and compares the answers.
 fn history<T: Table, K: Rank>(
     rt: &impl Abort,
+    table: &str,
     engine: &mut Engine<T>,
     ranks: &mut [K],
     first: K,
     second: K,
     answers: &[Answer],
-) -> Result<(), Fail> {
+) {
     for (moment, answer) in answers.iter().enumerate() {
         let call = call_at(moment, first, second);
-        assert_eq!(rt; engine.perform(ranks, call), *answer, "{}", moment);
+        assert_eq!(rt; engine.perform(ranks, call), *answer, "{table}: {moment}");
     }
-    Ok(())
 }
 
-fn over_a_list<K: Rank>(rt: &impl Abort, ranks: &mut [K], first: K, second: K) -> Result<(), Fail> {
+fn over_a_list<K: Rank>(rt: &impl Abort, ranks: &mut [K], first: K, second: K) {
     let mut entries = [100, 100, 100];
     let mut engine = Engine::open(NumberList::new(&mut entries));
-    let outcome = history(rt, &mut engine, ranks, first, second, &OVER_NUMBERS);
+    history(
+        rt,
+        "number list",
+        &mut engine,
+        ranks,
+        first,
+        second,
+        &OVER_NUMBERS,
+    );
     drop(engine.close());
-    outcome?;
-    assert!(rt; entries == [90, 140, 100]);
-    Ok(())
+    assert!(rt; entries == [90, 140, 100], "number list");
 }
 
-fn over_an_image<K: Rank>(
-    rt: &impl Abort,
-    ranks: &mut [K],
-    first: K,
-    second: K,
-) -> Result<(), Fail> {
+fn over_an_image<K: Rank>(rt: &impl Abort, ranks: &mut [K], first: K, second: K) {
     let mut bytes = [0, 3, 0, 100, 0, 100, 0, 100];
     let mut engine = Engine::open(Image::open(&mut bytes));
-    let outcome = history(rt, &mut engine, ranks, first, second, &OVER_NUMBERS);
+    history(
+        rt,
+        "image",
+        &mut engine,
+        ranks,
+        first,
+        second,
+        &OVER_NUMBERS,
+    );
     drop(engine.close());
-    outcome?;
-    assert!(rt; bytes == [0, 3, 0, 90, 0, 140, 0, 100]);
-    Ok(())
+    assert!(rt; bytes == [0, 3, 0, 90, 0, 140, 0, 100], "image");
 }
 
-fn over_zeros<K: Rank>(rt: &impl Abort, ranks: &mut [K], first: K, second: K) -> Result<(), Fail> {
+fn over_zeros<K: Rank>(rt: &impl Abort, ranks: &mut [K], first: K, second: K) {
     let mut engine = Engine::open(ZeroTable);
-    let outcome = history(rt, &mut engine, ranks, first, second, &OVER_ZEROS);
+    history(rt, "zeros", &mut engine, ranks, first, second, &OVER_ZEROS);
     drop(engine.close());
-    outcome
 }
 
-fn over_all<K: Rank>(rt: &impl Abort, ranks: &mut [K], first: K, second: K) -> Result<(), Fail> {
-    over_a_list(rt, ranks, first, second).note("number list")?;
-    over_an_image(rt, ranks, first, second).note("image")?;
-    over_zeros(rt, ranks, first, second).note("zeros")
+fn over_all<K: Rank>(rt: &impl Abort, ranks: &mut [K], first: K, second: K) {
+    over_a_list(rt, ranks, first, second);
+    over_an_image(rt, ranks, first, second);
+    over_zeros(rt, ranks, first, second);
 }
 
 #[test]
-fn with_grades(rt: HostRuntime) -> Result<(), Fail> {
-    over_all(&rt, &mut [Grade(0); 16], Grade(5), Grade(3))
+fn with_grades(rt: HostRuntime) {
+    over_all(&rt, &mut [Grade(0); 16], Grade(5), Grade(3));
 }
 
 // Both batches are due in the same minute, so the larger weight is above.
 #[test]
-fn with_dues(rt: HostRuntime) -> Result<(), Fail> {
+fn with_dues(rt: HostRuntime) {
     let first = Due {
         minute: 300,
         weight: 10,
@@ -156,5 +161,5 @@ fn with_dues(rt: HostRuntime) -> Result<(), Fail> {
         minute: 300,
         weight: 9,
     };
-    over_all(&rt, &mut [second; 16], first, second)
+    over_all(&rt, &mut [second; 16], first, second);
 }

@@ -4,7 +4,6 @@ use plant::{Element, NumberList, Refusal, Table};
 use ranks::{Client, Grade};
 use rules::{Answer, Call, LockKind, Pointer};
 use std::process::Abort;
-use std::test::Fail;
 
 const CLIENT: Client = Client(3);
 
@@ -22,11 +21,7 @@ fn lock_32<T: Table>(rt: &impl Abort, engine: &mut Engine<T>, ranks: &mut [Grade
 }
 
 // A 33rd lock is refused; a lock that is held already, or gains writing, is no further one.
-fn one_more<T: Table>(
-    rt: &impl Abort,
-    engine: &mut Engine<T>,
-    ranks: &mut [Grade],
-) -> Result<(), Fail> {
+fn one_more<T: Table>(rt: &impl Abort, engine: &mut Engine<T>, ranks: &mut [Grade]) {
     lock_32(rt, engine, ranks);
     assert_eq!(rt;
         engine.perform(ranks, Call::Lock(CLIENT, LockKind::Read, Element(32))),
@@ -40,19 +35,17 @@ fn one_more<T: Table>(
         engine.perform(ranks, Call::Lock(CLIENT, LockKind::Write, Element(31))),
         Answer::Done
     );
-    Ok(())
 }
 
 #[test]
-fn at_most_32_locks(rt: HostRuntime) -> Result<(), Fail> {
+fn at_most_32_locks(rt: HostRuntime) {
     let mut entries = [7; 40];
     let mut engine = Engine::open(NumberList::new(&mut entries));
-    let outcome = one_more(&rt, &mut engine, &mut [Grade(0); 16]);
+    one_more(&rt, &mut engine, &mut [Grade(0); 16]);
     drop(engine.close());
-    outcome
 }
 
-fn too_few_ranks<T: Table>(rt: &impl Abort, engine: &mut Engine<T>) -> Result<(), Fail> {
+fn too_few_ranks<T: Table>(rt: &impl Abort, engine: &mut Engine<T>) {
     let mut ranks = [Grade(0); 15];
     assert_eq!(rt;
         engine.perform(&mut ranks, Call::Begin(CLIENT, Grade(1))),
@@ -66,10 +59,9 @@ fn too_few_ranks<T: Table>(rt: &impl Abort, engine: &mut Engine<T>) -> Result<()
         engine.perform(&mut ranks, Call::Begin(Client(16), Grade(1))),
         Answer::Refused(Refusal::ClientOutOfRange)
     );
-    Ok(())
 }
 
-fn past_the_last<T: Table>(rt: &impl Abort, engine: &mut Engine<T>) -> Result<(), Fail> {
+fn past_the_last<T: Table>(rt: &impl Abort, engine: &mut Engine<T>) {
     let mut ranks = [Grade(0); 16];
     assert_eq!(rt;
         engine.perform(&mut ranks, Call::Begin(Client(15), Grade(1))),
@@ -87,19 +79,17 @@ fn past_the_last<T: Table>(rt: &impl Abort, engine: &mut Engine<T>) -> Result<()
         engine.perform(&mut ranks, Call::Bind(Pointer(64), Element(0))),
         Answer::Refused(Refusal::PointerOutOfRange)
     );
-    Ok(())
 }
 
-fn edges<T: Table>(rt: &impl Abort, engine: &mut Engine<T>) -> Result<(), Fail> {
-    too_few_ranks(rt, engine).note("15 ranks")?;
-    past_the_last(rt, engine).note("past the last")
+fn edges<T: Table>(rt: &impl Abort, engine: &mut Engine<T>) {
+    too_few_ranks(rt, engine);
+    past_the_last(rt, engine);
 }
 
 #[test]
-fn ranks_clients_and_pointers(rt: HostRuntime) -> Result<(), Fail> {
+fn ranks_clients_and_pointers(rt: HostRuntime) {
     let mut entries = [7];
     let mut engine = Engine::open(NumberList::new(&mut entries));
-    let outcome = edges(&rt, &mut engine);
+    edges(&rt, &mut engine);
     drop(engine.close());
-    outcome
 }

@@ -1,7 +1,7 @@
 -- Laws of looking through the numbers below a bound.
 use Rattle.std.proofs.Common.{◌≡◌, ℕ, zero, suc, ◌+◌, ◌<◌, Bool, true, false, cond, ◌&&◌, ◌||◌, eqb, Some, None, sym, refl, ap, ◌∙◌, ⊎_elim, arith}
 use Rattle.std.proofs.lemmas.Bool.{cond-true, cond-false, eqb-true, eq-eqb, or_from, or_left, or_right, cases_eq}
-use Rattle.rules.specs.Scans.{at, some_below, count_below, first_or, first_below}
+use Rattle.rules.specs.Scans.{some_below, count_below, first_or, first_below}
 
 -- Tests that agree below n are passed alike.
 pub some_alike : (n : ℕ) (p q : ℕ → Bool) → ((k : ℕ) → k < n → p k ≡ q k) → some_below n p ≡ some_below n q

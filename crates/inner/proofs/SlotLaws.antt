@@ -2,7 +2,7 @@
 use Rattle.std.proofs.Common.{◌≡◌, ℕ, zero, suc, ◌+◌, ◌<◌, ◌≤◌, Bool, true, false, cond, not, ◌&&◌, eqb, ltb, ◌⊎◌, List, [], ◌∷◌, length, get_or, set, is_some, Some, None, Option, sym, refl, ap, ◌∙◌, inl, inr, ⊎_elim, arith}
 use Rattle.std.proofs.lemmas.Bool.{cond-true, cond-false, eqb-true, eq-eqb, ne_eqb, lt-ltb, ltb-true, ltb-false, and_parts, and_from, and_right}
 use Rattle.std.proofs.lemmas.Bool.Decides.{nat_tests}
-use Rattle.rules.specs.Scans.{at, count_below, first_below}
+use Rattle.rules.specs.Scans.{count_below, first_below}
 use Rattle.rules.specs.Calls.{is_left}
 use Rattle.rules.specs.declared.Lock.{Lock}
 use Rattle.inner.proofs.ScanLaws.{count_none, count_alike, count_one_more, first_none, first_some}

@@ -8,7 +8,6 @@ use Rattle.rules.specs.declared.ClientState.TheVariants.{Idle}
 use Rattle.rules.specs.declared.Lock.{Lock}
 use Rattle.law.specs.Record.{is_open}
 use Rattle.law.specs.Order.{those_that}
-use Rattle.law.proofs.Filters.{Each}
 use Rattle.law.proofs.Touches.{Touch, gives, takes, placed}
 use Rattle.plant.specs.Meaning.{Meaning, number}
 use Rattle.ranks.specs.declared.Client.{Client}

@@ -9,8 +9,7 @@ use Rattle.rules.specs.declared.LockKind.{LockKind}
 use Rattle.rules.specs.declared.Lock.{Lock}
 use Rattle.rules.proofs.Scanning.{some_false}
 use Rattle.law.specs.Record.{is_open}
-use Rattle.law.proofs.Filters.{Each}
-use Rattle.law.proofs.Trails.{Stays, same, fresh, later}
+use Rattle.law.proofs.Trails.{Stays, same, fresh}
 use Rattle.law.proofs.Elements.{Kept, never, true_not_false, there_is, is_none}
 use Rattle.plant.specs.Meaning.{Meaning, number}
 use Rattle.ranks.specs.declared.Client.{Client}
@@ -20,7 +19,7 @@ use Rattle.rules.specs.Calls.{with_client}
 use Rattle.rules.specs.declared.Call.TheVariants.{Begin}
 use Rattle.rules.specs.declared.Answer.TheVariants.{Done}
 use Rattle.law.specs.History.{Event, History}
-use Rattle.law.specs.Order.{accesses, order, begins, steps_since}
+use Rattle.law.specs.Order.{accesses, order, steps_since}
 use Rattle.law.proofs.Touches.{on, trace}
 use Rattle.law.proofs.Elements.{kept_clients}
 use Rattle.law.proofs.Leaving.{kept_leaves}

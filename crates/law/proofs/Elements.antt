@@ -8,7 +8,7 @@ use Rattle.rules.specs.declared.ClientState.TheVariants.{Executing}
 use Rattle.rules.specs.declared.Lock.{Lock}
 use Rattle.law.specs.Record.{is_open}
 use Rattle.law.proofs.Touches.{Touch, gives, takes, last, TrueTo, Placed, touches}
-use Rattle.law.proofs.Trails.{Trail, Stays, same, trail_stays}
+use Rattle.law.proofs.Trails.{Trail, Stays, trail_stays}
 
 -- The holder's own touches are right from the base and end in its working copy, which is the base where it
 -- has changed nothing.

@@ -11,7 +11,7 @@ use Rattle.rules.proofs.Scanning.{some_true, some_false, some_none}
 use Rattle.law.specs.Record.{is_open}
 use Rattle.law.specs.Order.{those_that}
 use Rattle.law.proofs.Touches.{Touch, last, TrueTo, Placed, placed, touches, last_append, true_append, true_front, true_back, touches_append, touches_placed}
-use Rattle.law.proofs.Trails.{Trail, same, trail_stays, trail_closes, holder_keeps, holder_moves, other_keeps, other_moves, trail_ends, later}
+use Rattle.law.proofs.Trails.{Trail, same, trail_stays, trail_closes, holder_keeps, holder_moves, other_keeps, other_moves, trail_ends}
 use Rattle.law.proofs.Elements.{Holder, Held, Locking, someone, is_there, Kept, never, true_not_false, some_is, not_dropped, starts_anywhere, ends_alike, there_touches, not_there}
 use Rattle.law.proofs.Leaving.{stayed, locking_leaves, kept_leaves}
 

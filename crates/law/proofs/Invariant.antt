@@ -29,7 +29,7 @@ use Rattle.rules.specs.Calls.{with_lock, with_table_number, changed_lock, taken_
 use Rattle.law.proofs.Agreement.{lock_at}
 use Rattle.law.proofs.ClientSteps.{Element, Between, still}
 use Rattle.rules.specs.Calls.{next_left, hard_written}
-use Rattle.rules.specs.State.{shows, locked}
+use Rattle.rules.specs.State.{shows}
 use Rattle.law.specs.Order.{ended, ends_one_of}
 use Rattle.law.proofs.Agreement.{project}
 use Rattle.plant.specs.declared.refusals.Refusal.{Refusal}

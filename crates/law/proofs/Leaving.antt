@@ -1,7 +1,7 @@
 -- Clients leave: what the element keeps when a set of clients loses all its locks.
 use Rattle.std.proofs.Common.{◌≡◌, ℕ, suc, Bool, true, false, cond, ◌&&◌, ◌⊎◌, List, [], ℤ, is_some, Some, None, Option, unwrap_or, sym, refl, ap, ◌∙◌, inl, inr}
 use Rattle.std.proofs.lemmas.Bool.{and_parts, and_left, and_right, cases_Bool, cases_eq}
-use Rattle.rules.specs.Scans.{at, some_below}
+use Rattle.rules.specs.Scans.{some_below}
 use Rattle.rules.specs.State.{is_write, for_writing}
 use Rattle.rules.specs.declared.ClientState.{ClientState}
 use Rattle.rules.specs.declared.Lock.{Lock}

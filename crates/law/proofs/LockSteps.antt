@@ -7,7 +7,6 @@ use Rattle.rules.specs.declared.ClientState.TheVariants.{Executing, Committing}
 use Rattle.rules.specs.declared.LockKind.{LockKind}
 use Rattle.rules.specs.declared.LockKind.TheVariants.{Read, Write}
 use Rattle.rules.specs.declared.Lock.{Lock}
-use Rattle.law.proofs.Filters.{Each}
 use Rattle.law.proofs.Elements.{Held, never, true_not_false}
 use Rattle.plant.specs.Meaning.{Meaning, number}
 use Rattle.rules.specs.State.{State}

@@ -6,7 +6,6 @@ use Rattle.rules.specs.Scans.{at}
 use Rattle.rules.specs.State.{is_write}
 use Rattle.rules.specs.declared.ClientState.TheVariants.{Executing}
 use Rattle.rules.specs.declared.Lock.{Lock}
-use Rattle.law.proofs.Filters.{Each}
 use Rattle.law.proofs.Touches.{gives, takes, last_append, true_append}
 use Rattle.law.proofs.Elements.{Holder, never, true_not_false}
 use Rattle.plant.specs.Meaning.{Meaning, number}

@@ -7,7 +7,7 @@ use Rattle.rules.specs.declared.ClientState.{ClientState}
 use Rattle.rules.specs.declared.Lock.{Lock}
 use Rattle.law.specs.Record.{is_open}
 use Rattle.law.proofs.Touches.{Touch, last, Placed, touches}
-use Rattle.law.proofs.Trails.{Trail, same, trail_stays, later}
+use Rattle.law.proofs.Trails.{Trail, same, trail_stays}
 use Rattle.law.proofs.Elements.{Holder, Held, Kept, never}
 use Rattle.law.proofs.Gaining.{at_here, at_other, at_lock, at_no_lock}
 

@@ -8,7 +8,6 @@ use Rattle.rules.specs.State.{for_writing}
 use Rattle.rules.proofs.Scanning.{some_none}
 use Rattle.law.specs.Order.{those_that}
 use Rattle.law.proofs.Touches.{last, touches}
-use Rattle.law.proofs.Trails.{later}
 use Rattle.plant.specs.Meaning.{Meaning, number}
 use Rattle.rules.specs.State.{State}
 use Rattle.rules.specs.declared.Call.{Call}
@@ -17,7 +16,7 @@ use Rattle.rules.specs.declared.Answer.{Answer}
 use Rattle.rules.specs.declared.Answer.TheVariants.{Done, Number, WroteBack, Lost, Refused}
 use Rattle.law.specs.History.{Event, History}
 use Rattle.law.specs.Record.{Record, record_of}
-use Rattle.law.specs.Order.{accesses, order, begins, steps_since, accessed}
+use Rattle.law.specs.Order.{accesses, order, steps_since, accessed}
 use Rattle.law.proofs.Touches.{trace}
 use Rattle.law.proofs.Gaining.{at_here, at_other}
 use Rattle.law.proofs.Silent.{Ordinary, ordinary_order}
@@ -32,7 +31,6 @@ use Rattle.law.specs.Order.{Entry}
 use Rattle.plant.specs.declared.refusals.Refusal.{Refusal}
 use Rattle.rules.specs.declared.Fate.TheVariants.{Written}
 use Rattle.rules.specs.Effects.{Effect, refusing, beginning, keeping, losing, waiting, gaining, reading, changing, entering, dropping, writing, ending, giving_up, clearing, binding, removing, hard_reading, hard_writing}
-use Rattle.law.proofs.ClientSteps.{leaves}
 use Rattle.rules.specs.Calls.{Outcome}
 use Rattle.rules.specs.Step.{step}
 use Rattle.law.specs.History.{Leads}

@@ -1,5 +1,5 @@
 -- What a put leaves of a table.
-use Rattle.std.proofs.Common.{◌≡◌, ℕ, Bool, true, false, cond, ltb, length, set, ℤ, pos, refl, ap}
+use Rattle.std.proofs.Common.{◌≡◌, ℕ, Bool, true, false, cond, ltb, length, ℤ, pos, refl, ap}
 use Rattle.std.proofs.lemmas.List.{get_or-set_same, get_or-set_other, length-set}
 use Rattle.std.proofs.lemmas.Bool.{ltb-true}
 use Rattle.plant.specs.Meaning.{Meaning, has, within, number, with_number, put_meaning}

@@ -10,7 +10,6 @@ use Rattle.rules.specs.declared.Lock.{Lock}
 use Rattle.rules.proofs.Scanning.{some_false, some_found}
 use Rattle.law.specs.Record.{is_open}
 use Rattle.law.proofs.Touches.{last, TrueTo}
-use Rattle.law.proofs.Trails.{same}
 use Rattle.law.proofs.Elements.{never, is_none}
 use Rattle.plant.specs.Meaning.{Meaning, number}
 use Rattle.ranks.specs.declared.Client.{Client}
@@ -27,7 +26,6 @@ use Rattle.law.specs.Order.{order}
 use Rattle.law.proofs.Gaining.{at_here, at_other}
 use Rattle.plant.specs.declared.tables.Element.{Element as TableElement}
 use Rattle.rules.specs.Locking.{gain}
-use Rattle.law.specs.Order.{reads}
 use Rattle.law.proofs.Agreement.{kind_of, kind_there}
 use Rattle.rules.specs.Effects.{Effect, refusing, beginning, keeping, losing, waiting, gaining, reading, changing, entering, dropping, writing, ending, giving_up, clearing, binding, removing, hard_reading, hard_writing}
 use Rattle.ranks.specs.Standing.{Order, stands_above}

@@ -6,7 +6,7 @@ use Rattle.plant.specs.declared.refusals.Refusal.{Refusal}
 use Rattle.items.specs.Items.{Mark}
 use Rattle.forms.specs.Shapes.{spell, parts_of, shapes, allows}
 use Rattle.forms.specs.Forms.{blank, form_of}
-use Rattle.script.specs.Reading.{Fit, fits_open, fits_close, fits_word, fits_number, fits_end, Fits, numbers_of, line_items, marks, before, Spells, Sticks, in_turn, too_long, no_form, out_of_turn, reads, OneReading}
+use Rattle.script.specs.Reading.{Fit, fits_open, fits_close, fits_word, fits_number, fits_end, Fits, numbers_of, line_items, marks, Spells, Sticks, in_turn, too_long, no_form, out_of_turn, reads, OneReading}
 use Rattle.script.specs.Steps.{fits, walk_of, search_on, search_of}
 use Rattle.forms.specs.declared.shapes.RankKind.{RankKind}
 use Rattle.forms.specs.declared.shapes.Part.{Part}

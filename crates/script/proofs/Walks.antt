@@ -7,7 +7,6 @@ use Rattle.items.specs.Numerals.{number_of}
 use Rattle.forms.specs.Shapes.{spell, parts_of}
 use Rattle.script.specs.Reading.{Fit, fits_open, fits_close, fits_word, fits_number, fits_end, Fits, Begins, noted_at, numbers_of, marks, before}
 use Rattle.script.specs.Steps.{fits, walk_of}
-use Rattle.forms.specs.declared.shapes.Word.{Word}
 use Rattle.forms.specs.declared.shapes.Part.{Part}
 use Rattle.forms.specs.declared.shapes.Shape.{Shape}
 use Rattle.forms.specs.declared.makers.Numbers.{Numbers}
