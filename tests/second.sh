@@ -1,6 +1,6 @@
 #!/usr/bin/env bash
 # Holds the second program, second/lineplay.py, to the answers under scripts/ and to the law of a run, and the program
-# lineplay, where there is one, to the second program.
+# lineplay to the second program.
 set -euo pipefail
 root=$(cd "$(dirname "$(readlink -f "$0")")/.." && pwd)
 folder=$(mktemp -d)
@@ -54,12 +54,12 @@ add python3 second/check.py order 500
 # Both programs on the same scripts. The launcher is run once before, so that it can build what it starts; what it
 # built is then started without it, because that is quicker. A launcher that fails is a failure and no reason to
 # compare with a program that was built some time ago.
-program=$root/target/bin/lineplay
-if [ -x lineplay ] && ! ./lineplay < /dev/null > "$folder/log" 2>&1; then
+program=$root/crates/lineplay/out/lineplay
+if ! ./lineplay < /dev/null > "$folder/log" 2>&1; then
     failed=$((failed + 1))
     echo 'FAILED: ./lineplay on an empty script:'
     cat "$folder/log"
-elif [ -x "$program" ]; then
+else
     add python3 second/check.py compare "$program" 3000
     for script in scripts/*.script; do
         "$program" "$script" > "$folder/printed" || true
