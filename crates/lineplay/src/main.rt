@@ -14,6 +14,7 @@ use plant::{NumberList, Table};
 use ranks::{Due, Grade};
 use rules::Answer;
 use std::io::Read;
+use std::process::ExitCode;
 use std::{env, fs, io};
 
 // How a run went; what went wrong has been said by then.
@@ -23,16 +24,13 @@ enum Outcome {
     Failed,
 }
 
-#[derive(Debug, Drop)]
-struct Failure;
-
-fn main(rt: HostRuntime) -> Result<(), Failure> {
+fn main(rt: HostRuntime) -> ExitCode {
     match run(&rt) {
-        Ok(Outcome::Done) => Ok(()),
-        Ok(Outcome::Failed) => Err(Failure),
+        Ok(Outcome::Done) => ExitCode::SUCCESS,
+        Ok(Outcome::Failed) => ExitCode::FAILURE,
         Err(error) => {
             let _ = eprintln!(rt; "lineplay: {error}");
-            Err(Failure)
+            ExitCode::FAILURE
         }
     }
 }

@@ -5,6 +5,7 @@ use correction::{Correction, correct, line, read_element, read_number};
 use plant::{Element, Image, Refusal, Table};
 use std::fs::File;
 use std::io::Write;
+use std::process::ExitCode;
 use std::{env, fs, io};
 
 // How a run went; what went wrong has been said by then.
@@ -14,16 +15,13 @@ enum Outcome {
     Failed,
 }
 
-#[derive(Debug, Drop)]
-struct Failure;
-
-fn main(rt: HostRuntime) -> Result<(), Failure> {
+fn main(rt: HostRuntime) -> ExitCode {
     match run(&rt) {
-        Ok(Outcome::Done) => Ok(()),
-        Ok(Outcome::Failed) => Err(Failure),
+        Ok(Outcome::Done) => ExitCode::SUCCESS,
+        Ok(Outcome::Failed) => ExitCode::FAILURE,
         Err(error) => {
             let _ = eprintln!(rt; "plantimage: {error}");
-            Err(Failure)
+            ExitCode::FAILURE
         }
     }
 }
