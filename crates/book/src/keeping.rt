@@ -1,5 +1,5 @@
 // The book: the inner struct, known to be sound. What is read of it.
-ghost use Rattle.std.specs.Prelude.{◌≡◌, ◌<◌, ltb, is_some, if◌then◌else◌, Err, nat_lt};
+ghost use Rattle.std.specs.Prelude.{◌≡◌, ◌<◌, is_some, if◌then◌else◌, Err, nat_lt};
 ghost use Rattle.std.specs.Option.{option_map};
 ghost use Rattle.plant.specs.declared.refusals.Refusal.TheVariants.{ClientOutOfRange};
 ghost use Rattle.rules.specs.Scans.{count_below, first_below};
@@ -41,7 +41,7 @@ impl Book {
 
     // How a client's state meets a call: the next state, or the refusal.
     pub fn meets(&self, client: Client, call: Move) -> Result<ClientState, Refusal>
-        ensures { result ≡ (if ltb client.0 16 then met (client_of self.now.inner client.0).state call else Err ClientOutOfRange) }
+        ensures { result ≡ (if nat_lt client.0 16 then met (client_of self.now.inner client.0).state call else Err ClientOutOfRange) }
     {
         let c = client.0 as usize;
         if c >= 16 {

@@ -49,15 +49,18 @@ fn too_few_ranks<T: Table>(rt: &impl Abort, engine: &mut Engine<T>) {
     let mut ranks = [Grade(0); 15];
     assert_eq!(rt;
         engine.perform(&mut ranks, Call::Begin(CLIENT, Grade(1))),
-        Answer::Refused(Refusal::RankListTooShort)
+        Answer::Refused(Refusal::RankListTooShort),
+        "15 ranks"
     );
     assert_eq!(rt;
         engine.perform(&mut ranks, Call::Lock(CLIENT, LockKind::Read, Element(0))),
-        Answer::Refused(Refusal::RankListTooShort)
+        Answer::Refused(Refusal::RankListTooShort),
+        "15 ranks"
     );
     assert_eq!(rt;
         engine.perform(&mut ranks, Call::Begin(Client(16), Grade(1))),
-        Answer::Refused(Refusal::ClientOutOfRange)
+        Answer::Refused(Refusal::ClientOutOfRange),
+        "15 ranks"
     );
 }
 
@@ -65,19 +68,23 @@ fn past_the_last<T: Table>(rt: &impl Abort, engine: &mut Engine<T>) {
     let mut ranks = [Grade(0); 16];
     assert_eq!(rt;
         engine.perform(&mut ranks, Call::Begin(Client(15), Grade(1))),
-        Answer::Done
+        Answer::Done,
+        "past the last"
     );
     assert_eq!(rt;
         engine.perform(&mut ranks, Call::Begin(Client(16), Grade(1))),
-        Answer::Refused(Refusal::ClientOutOfRange)
+        Answer::Refused(Refusal::ClientOutOfRange),
+        "past the last"
     );
     assert_eq!(rt;
         engine.perform(&mut ranks, Call::Bind(Pointer(63), Element(0))),
-        Answer::Done
+        Answer::Done,
+        "past the last"
     );
     assert_eq!(rt;
         engine.perform(&mut ranks, Call::Bind(Pointer(64), Element(0))),
-        Answer::Refused(Refusal::PointerOutOfRange)
+        Answer::Refused(Refusal::PointerOutOfRange),
+        "past the last"
     );
 }
 

@@ -36,7 +36,7 @@ use Rattle.rules.proofs.EachEffect.{every_step}
 use Rattle.law.specs.History.{Leads}
 use Rattle.law.specs.Record.{holding, kind_writes, is_write_locked}
 use Rattle.law.specs.Play.{all_steps}
-use Rattle.law.specs.Law.{list_after, asks_ranks, OneList, Highest, Goes_on, HighestGoesOn, LawOfRun, EveryRunHasTheLaw, SecondVersionWhileWriteLocked}
+use Rattle.law.specs.Law.{list_after, asks_ranks, OneList, Highest, GoesOn, HighestGoesOn, LawOfRun, EveryRunHasTheLaw, SecondVersionWhileWriteLocked}
 use Rattle.law.proofs.Touches.{leaves as leaves_at, plays_right, trace_steps}
 use Rattle.law.proofs.Leaving.{writer_of}
 use Rattle.law.proofs.Once.{once}
@@ -190,7 +190,7 @@ any_ranks others alike (hard_writing p v e q there inside) = hard_writing p v e 
 module _ {K : Type 0} (above : K → K → Bool) (O : Order above) (m : Meaning) (small : length m.numbers ≤ 256) where
   goes_on : (first : List K) (x : Event K) (h : History K) (s : State) (r : Leads above m (x ∷ h) s) →
       (asks_ranks x.call ≡ true → x.ranks ≡ list_after first h) → (c : ℕ) → Highest above (list_after first h) (record_of h) c →
-      Goes_on x (record_of h) (record_of (x ∷ h)) c
+      GoesOn x (record_of h) (record_of (x ∷ h)) c
   goes_on first x h s r handed c top =
       let t : State = r.0 in
       let v : Inv m h t = inv_run above m small h t r.1 in

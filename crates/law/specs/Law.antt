@@ -83,7 +83,7 @@ pub record CommittingHolder (r : Record) (c : ℕ) (e : ℕ) : Type 0 where
 
 -- The highest client goes on across an event: it is not thrown out, and if the event is its own lock and
 -- waits, it waits for another client that is committing and holds the element.
-pub record Goes_on {K : Type 0} (x : Event K) (before after : Record) (c : ℕ) : Type 0 where
+pub record GoesOn {K : Type 0} (x : Event K) (before after : Record) (c : ℕ) : Type 0 where
   pub not_thrown_out : after.clients c ≡ ThrownOut → ⊥
   pub waits_only : (caller : Client) (kind : LockKind) (e : Element) →
       x.call ≡ Lock caller kind e → caller.0 ≡ c → x.answer ≡ Wait → CommittingHolder before c e.0
@@ -92,7 +92,7 @@ pub record Goes_on {K : Type 0} (x : Event K) (before after : Record) (c : ℕ) 
 abbrev pub HighestGoesOn : {K : Type 0} → (K → K → Bool) → List K → History K → Type 0
 HighestGoesOn above first [] = Unit {0}
 HighestGoesOn above first (x ∷ h) =
-    ((c : ℕ) → Highest above (list_after first h) (record_of h) c → Goes_on x (record_of h) (record_of (x ∷ h)) c) ×
+    ((c : ℕ) → Highest above (list_after first h) (record_of h) c → GoesOn x (record_of h) (record_of (x ∷ h)) c) ×
     HighestGoesOn above first h
 
 -- The law of a run, whole. Once: each accepted end and each accepted hard access stands in the order once,

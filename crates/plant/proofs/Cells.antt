@@ -5,34 +5,34 @@ use Rattle.std.proofs.lemmas.List.{length-set, get_or-set_same, get_or-set_other
 use Rattle.std.proofs.lemmas.Bool.{lt-ltb, le-ltb, cond-true, cond-false, ltb-true, and_parts, and_left, and_right, and_from, cases_eq}
 use Rattle.plant.specs.declared.refusals.Refusal.TheVariants.{NoSuchElement, NumberOutsideLimits}
 use Rattle.plant.specs.Meaning.{has, within, get_answer, put_answer, put_meaning, with_number}
-use Rattle.plant.specs.ByteTable.{word_at, image_count, cell_place, signed_16, bits_16, cell_number, first_of, image_meaning, with_cell, bytes_after_put}
+use Rattle.plant.specs.ByteTable.{word_at, image_count, cell_place, signed_16, bits_16, cell_number, first_values, image_meaning, with_cell, bytes_after_put}
 
-pub length_first_of : (n : ℕ) (f : ℕ → ℤ) → length (first_of n f) ≡ n
-unfolding first_of
-length_first_of zero f = refl
-length_first_of (suc n) f = ap suc (length_first_of n (λ k. f (suc k)))
+pub length_first_values : (n : ℕ) (f : ℕ → ℤ) → length (first_values n f) ≡ n
+unfolding first_values
+length_first_values zero f = refl
+length_first_values (suc n) f = ap suc (length_first_values n (λ k. f (suc k)))
 
-pub getD_first_of : (n : ℕ) (f : ℕ → ℤ) (k : ℕ) (d : ℤ) → k < n → get_or (first_of n f) k d ≡ f k
-unfolding first_of
-getD_first_of zero f k d h = absurd (omega arith)
-getD_first_of (suc n) f zero d h = refl
-getD_first_of (suc n) f (suc k) d h = getD_first_of n (λ j. f (suc j)) k d (omega arith)
+pub get_or_first_values : (n : ℕ) (f : ℕ → ℤ) (k : ℕ) (d : ℤ) → k < n → get_or (first_values n f) k d ≡ f k
+unfolding first_values
+get_or_first_values zero f k d h = absurd (omega arith)
+get_or_first_values (suc n) f zero d h = refl
+get_or_first_values (suc n) f (suc k) d h = get_or_first_values n (λ j. f (suc j)) k d (omega arith)
 
 -- Two functions that differ at one place give lists that differ at that place.
-pub first_of_set : (m n : ℕ) (f g : ℕ → ℤ) (e : ℕ) (v : ℤ) → m ≡ n → e < n → g e ≡ v → ((k : ℕ) → k ≢ e → g k ≡ f k)
-    → first_of m g ≡ set (first_of n f) e v
-first_of_set m n f g e v size lt here others =
+pub first_values_set : (m n : ℕ) (f g : ℕ → ℤ) (e : ℕ) (v : ℤ) → m ≡ n → e < n → g e ≡ v → ((k : ℕ) → k ≢ e → g k ≡ f k)
+    → first_values m g ≡ set (first_values n f) e v
+first_values_set m n f g e v size lt here others =
     same_lists _ _
-    (length_first_of m g ∙ size ∙ sym (length-set (first_of n f) e v ∙ length_first_of n f))
-    (λ k d h. at k d (omega (arith, length_first_of m g)) (cases_eq k e)) where
-      at : (k : ℕ) (d : ℤ) → k < m → (k ≡ e) ⊎ (k ≡ e → ⊥) → get_or (first_of m g) k d ≡ get_or (set (first_of n f) e v) k d
+    (length_first_values m g ∙ size ∙ sym (length-set (first_values n f) e v ∙ length_first_values n f))
+    (λ k d h. at k d (omega (arith, length_first_values m g)) (cases_eq k e)) where
+      at : (k : ℕ) (d : ℤ) → k < m → (k ≡ e) ⊎ (k ≡ e → ⊥) → get_or (first_values m g) k d ≡ get_or (set (first_values n f) e v) k d
       at k d h (inl same) =
-          let inside : e < length (first_of n f) = rw length_first_of lt in
-          getD_first_of m g k d h ∙ ap g same ∙ here
-          ∙ sym (ap (λ (i : ℕ). get_or (set (first_of n f) e v) i d) same ∙ get_or-set_same (first_of n f) e v d inside)
+          let inside : e < length (first_values n f) = rw length_first_values lt in
+          get_or_first_values m g k d h ∙ ap g same ∙ here
+          ∙ sym (ap (λ (i : ℕ). get_or (set (first_values n f) e v) i d) same ∙ get_or-set_same (first_values n f) e v d inside)
       at k d h (inr apart) =
-          getD_first_of m g k d h ∙ others k apart
-          ∙ sym (get_or-set_other (first_of n f) e k v d apart ∙ getD_first_of n f k d (omega arith))
+          get_or_first_values m g k d h ∙ others k apart
+          ∙ sym (get_or-set_other (first_values n f) e k v d apart ∙ get_or_first_values n f k d (omega arith))
 
 -- The machine's reading of 16 bits is the one that the rules state, and so is the way back.
 pub signed_is : (n : ℕ) → n < 65_536 → to_z w16 n ≡ signed_16 n
@@ -57,9 +57,9 @@ has_cell bs e h = grind arith
 
 pub get_is_cell : (bs : List ℕ) (e : ℕ) → e < image_count bs → get_answer (image_meaning bs) e ≡ Ok (cell_number bs e)
 get_is_cell bs e h =
-    let lt : e < length (first_of (image_count bs) (cell_number bs)) = rw length_first_of h in
-    cond-true (has (image_meaning bs) e) (Ok (get_or (first_of (image_count bs) (cell_number bs)) e (pos 0))) _ (lt-ltb _ _ lt)
-    ∙ ap (λ (v : ℤ). Ok v) (getD_first_of (image_count bs) (cell_number bs) e (pos 0) h)
+    let lt : e < length (first_values (image_count bs) (cell_number bs)) = rw length_first_values h in
+    cond-true (has (image_meaning bs) e) (Ok (get_or (first_values (image_count bs) (cell_number bs)) e (pos 0))) _ (lt-ltb _ _ lt)
+    ∙ ap (λ (v : ℤ). Ok v) (get_or_first_values (image_count bs) (cell_number bs) e (pos 0) h)
 
 -- A write to one cell leaves the length, and every byte outside the cell.
 pub with_cell_length : (bs : List ℕ) (e : ℕ) (v : ℤ) → length (with_cell bs e v) ≡ length bs
@@ -101,11 +101,11 @@ pub with_cell_meaning : (bs : List ℕ) (e : ℕ) (v : ℤ) → e < image_count 
     → image_meaning (with_cell bs e v) ≡ with_number (image_meaning bs) e v
 with_cell_meaning bs e v h w =
     ap (λ (ns : List ℤ). record { numbers = ns; lowest = negsuc 32_767; highest = pos 32_767 })
-    (first_of_set _ (image_count bs) (cell_number bs) (cell_number (with_cell bs e v)) e v
+    (first_values_set _ (image_count bs) (cell_number bs) (cell_number (with_cell bs e v)) e v
     (with_cell_count bs e v) h (with_cell_same bs e v (has_cell bs e h) w) (with_cell_others bs e v))
 
 pub has_is : (bs : List ℕ) (e : ℕ) → has (image_meaning bs) e ≡ ltb e (image_count bs)
-has_is bs e = ap (ltb e) (length_first_of _ _)
+has_is bs e = ap (ltb e) (length_first_values _ _)
 
 pub put_by_cases : (bs : List ℕ) (e : ℕ) (v : ℤ) (b c : Bool) → (b ≡ true → e < image_count bs) → (c ≡ true → within (image_meaning bs) v ≡ true)
     → image_meaning (cond (b && c) (with_cell bs e v) bs) ≡ cond b (cond c (with_number (image_meaning bs) e v) (image_meaning bs)) (image_meaning bs)

@@ -42,13 +42,13 @@ abbrev pub cell_number : List ℕ → ℕ → ℤ
 cell_number bytes e = signed_16 (word_at bytes (cell_place e))
 
 -- The list of what a function gives at 0, 1, 2 and so on, this many.
-unfoldable pub first_of : ℕ → (ℕ → ℤ) → List ℤ
-first_of zero f = []
-first_of (suc n) f = f 0 ∷ first_of n (λ k. f (suc k))
+unfoldable pub first_values : ℕ → (ℕ → ℤ) → List ℤ
+first_values zero f = []
+first_values (suc n) f = f 0 ∷ first_values n (λ k. f (suc k))
 
 -- The elements are the numbers in the image's cells, within the limits of 16 signed bits.
 abbrev pub image_meaning : List ℕ → Meaning
-image_meaning bytes = record { numbers = first_of (image_count bytes) (cell_number bytes); lowest = negsuc 32_767; highest = pos 32_767 }
+image_meaning bytes = record { numbers = first_values (image_count bytes) (cell_number bytes); lowest = negsuc 32_767; highest = pos 32_767 }
 
 -- The bytes with a number in an element's cell.
 abbrev pub with_cell : List ℕ → ℕ → ℤ → List ℕ

@@ -1,7 +1,6 @@
 // A table on the caller's bytes: two for the count, then two for each element, the higher byte first.
 ghost use Rattle.std.specs.Prelude.{◌≡◌, ◌+◌, ◌/◌, ◌%◌, ◌<◌, ◌≤◌, length, pos, negsuc, ◌≤ℤ◌, IfOk, slice_set};
-ghost use Rattle.std.specs.Int.{w16};
-ghost use Rattle.std.proofs.Common.{of_z};
+ghost use Rattle.std.specs.Int.{w16, cast_unsigned};
 ghost use Rattle.plant.specs.ByteTable.{image_check, image_count, cell_number, image_meaning, bytes_after_put};
 ghost use Rattle.plant.specs.Meaning.{get_answer, put_answer, put_meaning};
 
@@ -61,7 +60,7 @@ fn get_cell(bytes: &[u8], element: Element) -> Result<i64, Refusal>
 
 fn write_cell(bytes: &mut [u8], place: usize, number: i16)
     requires { place + 1 < length bytes.old }
-    ensures { bytes.new ≡ slice_set (slice_set bytes.old place (of_z w16 number / 256 % 256)) (place + 1) (of_z w16 number % 256) }
+    ensures { bytes.new ≡ slice_set (slice_set bytes.old place (cast_unsigned w16 number / 256 % 256)) (place + 1) (cast_unsigned w16 number % 256) }
 {
     let cell = number.to_be_bytes();
     bytes[place] = cell[0];

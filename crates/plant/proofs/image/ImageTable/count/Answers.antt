@@ -1,6 +1,6 @@
 use Rattle.std.proofs.Common.{rules}
-use Rattle.plant.proofs.Cells.{length_first_of}
+use Rattle.plant.proofs.Cells.{length_first_values}
 use Rattle.plant.proofs.image.ImageTable.count.Goals as goal
 
 pub returns : goal.returns
-returns c = search (rules, length_first_of)
+returns c = search (rules, length_first_values)
