@@ -8,7 +8,7 @@ use plant::{Element, Refusal};
 use ranks::{Client, Rank};
 
 // The number of a control task's pointer; 0 to 63 are pointers.
-#[derive(Clone, Copy, PartialEq, Eq, Debug)]
+#[derive(Clone, Copy, PartialEq, Eq, PartialOrd, Ord, Debug)]
 pub struct Pointer(pub u16);
 
 #[derive(Clone, Copy, PartialEq, Eq, Debug)]
@@ -49,8 +49,8 @@ pub enum Fate {
 // One client's lock on one element.
 #[derive(Clone, Copy)]
 pub struct Lock {
-    pub kind: LockKind,
     pub copy: i64,
+    pub kind: LockKind,
     pub changed: bool,
     pub taken: bool,
 }

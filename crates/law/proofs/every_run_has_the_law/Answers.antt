@@ -4,4 +4,4 @@ use Rattle.law.proofs.every_run_has_the_law.Goals as goal
 pub returns : goal.returns
 returns g c =
     every_run g.K.Rank.above
-    (record { irreflexive = g.met.K.Rank.irreflexive; transitive = g.met.K.Rank.transitive; even = g.met.K.Rank.even })
+    g.met.K.Rank.order

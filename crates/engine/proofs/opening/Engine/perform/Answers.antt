@@ -9,7 +9,7 @@ returns g c =
       ranks = c.dispatch.ensures.ranks;
       law =
           goes_on g.K.Rank.above
-          (record { irreflexive = g.met.K.Rank.irreflexive; transitive = g.met.K.Rank.transitive; even = g.met.K.Rank.even })
+          g.met.K.Rank.order
           (state_of g.T.Table.meaning c.args.self.now) c.args.ranks.now c.args.call c.dispatch.result (state_of g.T.Table.meaning c.dispatch.new.self)
           c.dispatch.ensures.value;
     }
