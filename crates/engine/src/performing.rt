@@ -4,7 +4,6 @@ ghost use Rattle.rules.specs.Step.{step, ranks_after};
 ghost use Rattle.engine.specs.Answering.{left_with, state_of};
 ghost use Rattle.engine.specs.Running.{LawGoesOn};
 
-use super::answers::{of_back, of_done, of_lock, of_number};
 use super::opening::Engine;
 use plant::Table;
 use ranks::Rank;
@@ -26,21 +25,19 @@ impl<T: Table> Engine<T> {
         ensures ranks { ranks.new ≡ ranks_after ranks.old call result }
     {
         match call {
-            Call::Begin(client, rank) => of_done(self.begin(ranks, client, rank)),
-            Call::Lock(client, kind, element) => of_lock(self.lock(ranks, client, kind, element)),
-            Call::Read(client, element) => of_number(self.read(client, element)),
-            Call::Change(client, element, written) => of_done(self.change(
-                client, element, written,
-            )),
-            Call::Commit(client) => of_done(self.commit(client)),
-            Call::WriteBack(client) => of_back(self.write_back(client)),
-            Call::End(client) => of_done(self.end(client)),
-            Call::GiveUp(client) => of_done(self.give_up(client)),
-            Call::Clear(client) => of_done(self.clear(client)),
-            Call::Bind(pointer, element) => of_done(self.bind(pointer, element)),
-            Call::Remove(pointer) => of_done(self.remove(pointer)),
-            Call::HardRead(pointer) => of_number(self.hard_read(pointer)),
-            Call::HardWrite(pointer, written) => of_done(self.hard_write(pointer, written)),
+            Call::Begin(client, rank) => self.begin(ranks, client, rank).into(),
+            Call::Lock(client, kind, element) => self.lock(ranks, client, kind, element).into(),
+            Call::Read(client, element) => self.read(client, element).into(),
+            Call::Change(client, element, written) => self.change(client, element, written).into(),
+            Call::Commit(client) => self.commit(client).into(),
+            Call::WriteBack(client) => self.write_back(client).into(),
+            Call::End(client) => self.end(client).into(),
+            Call::GiveUp(client) => self.give_up(client).into(),
+            Call::Clear(client) => self.clear(client).into(),
+            Call::Bind(pointer, element) => self.bind(pointer, element).into(),
+            Call::Remove(pointer) => self.remove(pointer).into(),
+            Call::HardRead(pointer) => self.hard_read(pointer).into(),
+            Call::HardWrite(pointer, written) => self.hard_write(pointer, written).into(),
         }
     }
 }

@@ -1,8 +1,10 @@
 // The words of the two-version protocol: calls, answers, client states and locks.
 #![tactic(auto)]
 
+ghost use Rattle.std.specs.Prelude.{◌≡◌, MatchResult};
 ghost use Rattle.rules.specs.Effects.{EveryStepHasAnEffect};
 ghost use Rattle.rules.specs.Trials.{TrialsHold};
+ghost use Rattle.rules.specs.declared.Answer.TheVariants.{Done, Number, WroteBack, Refused};
 
 use plant::{Element, Refusal};
 use ranks::{Client, Rank};
@@ -49,8 +51,8 @@ pub enum Fate {
 // One client's lock on one element.
 #[derive(Clone, Copy)]
 pub struct Lock {
-    pub copy: i64,
     pub kind: LockKind,
+    pub copy: i64,
     pub changed: bool,
     pub taken: bool,
 }
@@ -82,6 +84,42 @@ pub enum Answer {
     Wait,
     Lost,
     Refused(Refusal),
+}
+
+// What a call brings is an answer, and so is a refusal.
+impl From<()> for Answer {
+    ghost from_gives = { λ _ answer. answer ≡ Done };
+
+    fn from(_done: ()) -> Answer {
+        Answer::Done
+    }
+}
+
+impl From<i64> for Answer {
+    ghost from_gives = { λ number answer. answer ≡ Number number };
+
+    fn from(number: i64) -> Answer {
+        Answer::Number(number)
+    }
+}
+
+impl From<(Element, Fate)> for Answer {
+    ghost from_gives = { λ back answer. answer ≡ WroteBack back.0 back.1 };
+
+    fn from((element, fate): (Element, Fate)) -> Answer {
+        Answer::WroteBack(element, fate)
+    }
+}
+
+impl<V: Into<Answer>> From<Result<V, Refusal>> for Answer {
+    ghost from_gives = { λ outcome answer. MatchResult outcome (λ brought. V.converts brought answer) (λ refusal. answer ≡ Refused refusal) };
+
+    fn from(outcome: Result<V, Refusal>) -> Answer {
+        match outcome {
+            Ok(brought) => brought.into(),
+            Err(refusal) => Answer::Refused(refusal),
+        }
+    }
 }
 
 // Every trial of the protocol comes out as expected of it.
