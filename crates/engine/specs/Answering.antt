@@ -1,7 +1,8 @@
 -- The answers of the calls, as the rules have them, and what a call leaves.
-use Rattle.std.specs.Prelude.{ℤ, Ok, Err, Result}
+use Rattle.std.specs.Prelude.{ℕ, cond, ℤ, Some, None, Ok, Err, Option, Result, nat_lt}
 use Rattle.plant.specs.Meaning.{Meaning}
 use Rattle.plant.specs.declared.refusals.Refusal.{Refusal}
+use Rattle.plant.specs.declared.refusals.Refusal.TheVariants.{PointerOutOfRange, PointerNotBound}
 use Rattle.plant.specs.declared.tables.Element.{Element}
 use Rattle.rules.specs.State.{State}
 use Rattle.rules.specs.Calls.{Outcome, answered}
@@ -45,3 +46,11 @@ state_of meaning e = model (meaning e.table) e.book.inner
 -- What a call left, with its answer.
 abbrev pub left_with : {T : Type 0} → (T → Meaning) → Engine T → Answer → Outcome
 left_with meaning e a = answered (state_of meaning e) a
+
+-- The element of a pointer that is bound, or the refusal of any other.
+abbrev pub element_tied : Option Element → Result Element Refusal
+element_tied None = Err PointerNotBound
+element_tied (Some e) = Ok e
+
+abbrev pub bound_element : State → ℕ → Result Element Refusal
+bound_element s p = cond (nat_lt p 64) (element_tied (s.ties p)) (Err PointerOutOfRange)

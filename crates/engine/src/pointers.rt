@@ -1,21 +1,37 @@
 // The calls of a control task.
-ghost use Rattle.std.specs.Prelude.{◌≡◌};
+ghost use Rattle.std.specs.Prelude.{◌≡◌, ◌<◌, if◌then◌else◌, Ok, Err, nat_lt};
+ghost use Rattle.plant.specs.declared.refusals.Refusal.TheVariants.{PointerOutOfRange};
 ghost use Rattle.rules.specs.Calls.{bind_call, remove_call, hard_read_call, hard_write_call};
-ghost use Rattle.engine.specs.Answering.{done_answer, number_answer, left_with, state_of};
+ghost use Rattle.inner.specs.Whole.{tie_of};
+ghost use Rattle.engine.specs.Answering.{done_answer, number_answer, left_with, state_of, bound_element};
 
 use super::opening::Engine;
 use plant::{Element, Refusal, Table};
 use rules::Pointer;
 
 impl<T: Table> Engine<T> {
-    // A pointer that is not bound is tied to an element.
-    pub fn bind(&mut self, pointer: Pointer, element: Element) -> Result<(), Refusal>
-        ensures { left_with T.meaning self.new (done_answer result) ≡ bind_call (state_of T.meaning self.old) pointer.0 element }
+    // What a pointer is tied to, if it is bound.
+    fn tie_of(&self, pointer: Pointer) -> Result<Option<Element>, Refusal>
+        ensures { result ≡ (if nat_lt pointer.0 64 then Ok (tie_of self.now.book.inner pointer.0) else Err PointerOutOfRange) }
     {
         if pointer.0 >= 64 {
             return Err(Refusal::PointerOutOfRange);
         }
-        if self.book.tie_of(pointer).is_some() {
+        Ok(self.book.tie_of(pointer))
+    }
+
+    // The element of a pointer that is bound.
+    fn bound_element(&self, pointer: Pointer) -> Result<Element, Refusal>
+        ensures { result ≡ bound_element (state_of T.meaning self.now) pointer.0 }
+    {
+        self.tie_of(pointer)?.ok_or(Refusal::PointerNotBound)
+    }
+
+    // A pointer that is not bound is tied to an element.
+    pub fn bind(&mut self, pointer: Pointer, element: Element) -> Result<(), Refusal>
+        ensures { left_with T.meaning self.new (done_answer result) ≡ bind_call (state_of T.meaning self.old) pointer.0 element }
+    {
+        if self.tie_of(pointer)?.is_some() {
             return Err(Refusal::PointerAlreadyBound);
         }
         if !self.has(element) {
@@ -29,12 +45,7 @@ impl<T: Table> Engine<T> {
     pub fn remove(&mut self, pointer: Pointer) -> Result<(), Refusal>
         ensures { left_with T.meaning self.new (done_answer result) ≡ remove_call (state_of T.meaning self.old) pointer.0 }
     {
-        if pointer.0 >= 64 {
-            return Err(Refusal::PointerOutOfRange);
-        }
-        if self.book.tie_of(pointer).is_none() {
-            return Err(Refusal::PointerNotBound);
-        }
+        let _element = self.bound_element(pointer)?;
         self.book.tie(pointer, None);
         Ok(())
     }
@@ -43,12 +54,7 @@ impl<T: Table> Engine<T> {
     pub fn hard_read(&self, pointer: Pointer) -> Result<i64, Refusal>
         ensures { left_with T.meaning self.now (number_answer result) ≡ hard_read_call (state_of T.meaning self.now) pointer.0 }
     {
-        if pointer.0 >= 64 {
-            return Err(Refusal::PointerOutOfRange);
-        }
-        let Some(element) = self.book.tie_of(pointer) else {
-            return Err(Refusal::PointerNotBound);
-        };
+        let element = self.bound_element(pointer)?;
         match self.book.second_of(element) {
             Some(second) => Ok(second),
             None => self.table.get(element),
@@ -59,12 +65,7 @@ impl<T: Table> Engine<T> {
     pub fn hard_write(&mut self, pointer: Pointer, written: i64) -> Result<(), Refusal>
         ensures { left_with T.meaning self.new (done_answer result) ≡ hard_write_call (state_of T.meaning self.old) pointer.0 written }
     {
-        if pointer.0 >= 64 {
-            return Err(Refusal::PointerOutOfRange);
-        }
-        let Some(element) = self.book.tie_of(pointer) else {
-            return Err(Refusal::PointerNotBound);
-        };
+        let element = self.bound_element(pointer)?;
         if !self.has(element) {
             return Err(Refusal::NoSuchElement);
         }
