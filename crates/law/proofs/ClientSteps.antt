@@ -50,9 +50,6 @@ executing_or Executing o n = refl
 executing_or Committing o n = never (cc)
 executing_or ThrownOut o n = never (cc)
 
-pub idle_shut : (st : ClientState) → st ≡ Idle → is_open st ≡ false
-idle_shut st e = ap is_open e
-
 module _ {K : Type 0} (m : Meaning) (h : History K) (t : State) (begun : ℕ → ℕ) (k : (e : ℕ) → Element m h t begun e) where
   -- Nothing of the element alters.
   pub still : (e : ℕ) → Between m h t begun e
