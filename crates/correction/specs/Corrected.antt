@@ -1,5 +1,5 @@
 -- What the correction of one number of an image answers.
-use Rattle.std.specs.Prelude.{ℕ, cond, List, ℤ, Ok, Err, Result}
+use Rattle.std.specs.Prelude.{ℕ, if◌then◌else◌, List, ℤ, Ok, Err, Result}
 use Rattle.plant.specs.declared.refusals.Refusal.{Refusal}
 use Rattle.plant.specs.declared.refusals.Refusal.TheVariants.{BadImage, NoSuchElement, NumberOutsideLimits}
 use Rattle.plant.specs.declared.tables.Element.{Element}
@@ -10,10 +10,10 @@ use Rattle.correction.specs.declared.changes.Correction.{Correction}
 -- At an image: the element with its number before and after, or the refusal of the element or of the number, in this order.
 abbrev pub change_answer : List ℕ → Element → ℤ → Result Correction Refusal
 change_answer bytes e v =
-    cond (has (image_meaning bytes) e.0)
-    (cond (within (image_meaning bytes) v) (Ok (record { element = e; before = cell_number bytes e.0; after = v })) (Err NumberOutsideLimits))
-    (Err NoSuchElement)
+    if has (image_meaning bytes) e.0
+    then (if within (image_meaning bytes) v then Ok (record { element = e; before = cell_number bytes e.0; after = v }) else Err NumberOutsideLimits)
+    else Err NoSuchElement
 
 -- At any bytes: first whether they are an image.
 abbrev pub correct_answer : List ℕ → Element → ℤ → Result Correction Refusal
-correct_answer bytes e v = cond (is_image bytes) (change_answer bytes e v) (Err BadImage)
+correct_answer bytes e v = if is_image bytes then change_answer bytes e v else Err BadImage

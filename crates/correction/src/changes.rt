@@ -19,10 +19,12 @@ impl fmt::Display for Correction {
     ghost output = { λ c. Some (correction_text c) };
 
     fn fmt<W: fmt::Write>(&self, f: &mut fmt::Formatter<W>) -> fmt::Result {
-        let element = self.element.0;
-        let before = self.before;
-        let after = self.after;
-        write!(f, "element {element}: {before} -> {after}")
+        let Correction {
+            element,
+            before,
+            after,
+        } = *self;
+        write!(f, "element {}: {before} -> {after}", element.0)
     }
 }
 
@@ -32,14 +34,12 @@ fn change(image: &mut Image, element: Element, number: i64) -> Result<Correction
     ensures lender { image.new.bytes.ghost_name ≡ image.old.bytes.ghost_name }
 {
     let before = image.get(element)?;
-    match image.put(element, number) {
-        Ok(()) => Ok(Correction {
-            element,
-            before,
-            after: number,
-        }),
-        Err(refusal) => Err(refusal),
-    }
+    image.put(element, number)?;
+    Ok(Correction {
+        element,
+        before,
+        after: number,
+    })
 }
 
 // Bytes that are no image, an element or a number that is refused leave every byte as it was.
@@ -47,11 +47,7 @@ pub fn correct(bytes: &mut [u8], element: Element, number: i64) -> Result<Correc
     ensures value { result ≡ correct_answer bytes.old element number }
     ensures after { bytes.new ≡ bytes_after_put bytes.old element.0 number }
 {
-    match Image::check(bytes) {
-        Ok(_) => {
-            let mut image = Image::open(bytes);
-            change(&mut image, element, number)
-        }
-        Err(refusal) => Err(refusal),
-    }
+    Image::check(bytes)?;
+    let mut image = Image::open(bytes);
+    change(&mut image, element, number)
 }

@@ -1,24 +1,38 @@
 // Shows the numbers of a plant image, and corrects one of them.
 #![tactic(auto)]
 
-use correction::{Correction, correct, line, read_element, read_number};
+use correction::{correct, line, read_element, read_number};
 use plant::{Element, Image, Refusal, Table};
 use std::fs::File;
 use std::io::Write;
 use std::process::ExitCode;
 use std::{env, fs, io};
+use thiserror::Error;
 
-// How a run went; what went wrong has been said by then.
-#[derive(Clone, Copy)]
-enum Outcome {
-    Done,
-    Failed,
+const USAGE: &str = "usage: plantimage show FILE\n       plantimage set FILE ELEMENT NUMBER";
+
+// What stops a run, as its message says it.
+#[derive(Debug, Drop, Error)]
+enum Failure<'a> {
+    #[error("these arguments are not understood\n{USAGE}")]
+    Arguments,
+    #[error("'{text}' is no element number: write 0 to 65535")]
+    NoElement { text: &'a str },
+    #[error("'{text}' is no whole number within 64 bits")]
+    NoNumber { text: &'a str },
+    #[error("cannot read {file}: {error}")]
+    NotRead { file: &'a str, error: io::Error },
+    #[error("{file}: refused ({}): {}", .refusal.number(), .refusal)]
+    Refused { file: &'a str, refusal: Refusal },
+    #[error("cannot write {file}: {error}")]
+    NotWritten { file: &'a str, error: io::Error },
+    #[error(transparent)]
+    Printing(#[from] io::Error),
 }
 
 fn main(rt: HostRuntime) -> ExitCode {
     match run(&rt) {
-        Ok(Outcome::Done) => ExitCode::SUCCESS,
-        Ok(Outcome::Failed) => ExitCode::FAILURE,
+        Ok(code) => code,
         Err(error) => {
             let _ = eprintln!(rt; "plantimage: {error}");
             ExitCode::FAILURE
@@ -26,93 +40,63 @@ fn main(rt: HostRuntime) -> ExitCode {
     }
 }
 
-fn run(rt: &HostRuntime) -> io::Result<Outcome> {
+fn run(rt: &HostRuntime) -> io::Result<ExitCode> {
     let words: Vec<String> = env::args(rt)?.collect(rt.alloc())?;
-    let words = words.as_slice();
+    match obey(rt, words.as_slice()) {
+        Ok(()) => Ok(ExitCode::SUCCESS),
+        Err(failure) => {
+            eprintln!(rt; "plantimage: {failure}")?;
+            Ok(ExitCode::FAILURE)
+        }
+    }
+}
+
+// Called with nothing the program explains itself; called wrongly it fails too.
+fn obey<'a>(rt: &HostRuntime, words: &'a [String]) -> Result<(), Failure<'a>> {
     match words {
         [_, command, file] if command.as_str() == "show" => show(rt, file.as_str()),
         [_, command, file, element, number] if command.as_str() == "set" => {
             set(rt, file.as_str(), element.as_str(), number.as_str())
         }
-        _ => usage(rt, words.len() < 2),
+        [] | [_] => Ok(println!(rt; "{USAGE}")?),
+        _ => Err(Failure::Arguments),
     }
 }
 
-// Called with nothing the program explains itself; called wrongly it fails too.
-fn usage(rt: &HostRuntime, asked: bool) -> io::Result<Outcome> {
-    let text = "usage: plantimage show FILE\n       plantimage set FILE ELEMENT NUMBER";
-    if asked {
-        println!(rt; "{text}")?;
-        return Ok(Outcome::Done);
-    }
-    eprintln!(rt; "plantimage: these arguments are not understood\n{text}")?;
-    Ok(Outcome::Failed)
+fn show<'a>(rt: &HostRuntime, file: &'a str) -> Result<(), Failure<'a>> {
+    let mut bytes = fs::read(rt, file).map_err(|error| Failure::NotRead { file, error })?;
+    Image::check(bytes.as_slice()).map_err(|refusal| Failure::Refused { file, refusal })?;
+    Ok(list(rt, &Image::open(bytes.as_mut_slice()))?)
 }
 
-fn refused(rt: &HostRuntime, file: &str, refusal: Refusal) -> io::Result<Outcome> {
-    let number = refusal.number();
-    let words = refusal.words();
-    eprintln!(rt; "plantimage: {file}: refused ({number}): {words}")?;
-    Ok(Outcome::Failed)
-}
-
-fn failed(rt: &HostRuntime, what: &str, file: &str, error: io::Error) -> io::Result<Outcome> {
-    eprintln!(rt; "plantimage: cannot {what} {file}: {error}")?;
-    Ok(Outcome::Failed)
-}
-
-fn show(rt: &HostRuntime, file: &str) -> io::Result<Outcome> {
-    let mut bytes = match fs::read(rt, file) {
-        Ok(bytes) => bytes,
-        Err(error) => return failed(rt, "read", file, error),
-    };
-    match Image::check(bytes.as_slice()) {
-        Ok(_) => list(rt, &Image::open(bytes.as_mut_slice())),
-        Err(refusal) => refused(rt, file, refusal),
-    }
-}
-
-fn list(rt: &HostRuntime, image: &Image) -> io::Result<Outcome> {
+fn list(rt: &HostRuntime, image: &Image) -> io::Result<()> {
     let count = image.count();
     let lowest = image.lowest();
     let highest = image.highest();
     println!(rt; "count {count}, lowest {lowest}, highest {highest}")?;
-    for number in 0..count {
-        let element = Element(number);
+    for element in (0..count).map(Element) {
         if let Ok(value) = image.get(element) {
             rt.println(line(rt.alloc(), element, value)?)?;
         }
     }
-    Ok(Outcome::Done)
+    Ok(())
 }
 
-fn set(rt: &HostRuntime, file: &str, element: &str, number: &str) -> io::Result<Outcome> {
-    let Some(element) = read_element(element) else {
-        eprintln!(rt; "plantimage: '{element}' is no element number: write 0 to 65535")?;
-        return Ok(Outcome::Failed);
-    };
-    let Some(number) = read_number(number) else {
-        eprintln!(rt; "plantimage: '{number}' is no whole number within 64 bits")?;
-        return Ok(Outcome::Failed);
-    };
-    let mut bytes = match fs::read(rt, file) {
-        Ok(bytes) => bytes,
-        Err(error) => return failed(rt, "read", file, error),
-    };
-    match correct(bytes.as_mut_slice(), element, number) {
-        Ok(done) => save(rt, file, bytes.as_slice(), done),
-        Err(refusal) => refused(rt, file, refusal),
-    }
-}
-
-fn save(rt: &HostRuntime, file: &str, bytes: &[u8], done: Correction) -> io::Result<Outcome> {
-    match replace(rt, file, bytes) {
-        Ok(()) => {
-            println!(rt; "{done}")?;
-            Ok(Outcome::Done)
-        }
-        Err(error) => failed(rt, "write", file, error),
-    }
+fn set<'a>(
+    rt: &HostRuntime,
+    file: &'a str,
+    element: &'a str,
+    number: &'a str,
+) -> Result<(), Failure<'a>> {
+    let element = read_element(element).ok_or(Failure::NoElement { text: element })?;
+    let number = read_number(number).ok_or(Failure::NoNumber { text: number })?;
+    let mut bytes = fs::read(rt, file).map_err(|error| Failure::NotRead { file, error })?;
+    let done = correct(bytes.as_mut_slice(), element, number).map_err(|refusal| Failure::Refused {
+        file,
+        refusal,
+    })?;
+    replace(rt, file, bytes.as_slice()).map_err(|error| Failure::NotWritten { file, error })?;
+    Ok(println!(rt; "{done}")?)
 }
 
 // A crash leaves the old image or the new one, since the new one is complete before it takes the name.

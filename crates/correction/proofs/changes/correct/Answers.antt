@@ -1,7 +1,9 @@
-use Rattle.correction.proofs.Refused.{refused_image}
+use Rattle.std.proofs.Common.{◌≤◌, rules}
+use Rattle.plant.specs.ByteTable.{image_count}
+use Rattle.plant.proofs.Cells.{put_none}
 use Rattle.correction.proofs.changes.correct.Goals as goal
 
-pub returns-in-Err : goal.returns-in-Err
-returns-in-Err c =
-    let is = refused_image c.args.bytes.now c.args.element c.args.number c.in-Err.refusal c.in-Err.ensures in
-    record { value = is.0; after = is.1 }
+pub returns-in_err-check-clause-after : goal.returns-in_err-check-clause-after
+returns-in_err-check-clause-after c =
+    let none : image_count c.args.bytes.now ≤ c.args.element.0 = search rules in
+    search (rules, put_none c.args.bytes.now c.args.element.0 c.args.number none)
