@@ -4,7 +4,7 @@ ghost use Rattle.inner.specs.Cells.{written_hard, gained, raised};
 ghost use Rattle.inner.specs.Whole.{fresh, client_of, cell_of, with_cell, with_tied, entered_state, with_slot, left};
 
 use super::cells::{Cell, release_all};
-use super::slots::{ClientRecord, Slot};
+use super::slots::{ClientRecord, Held};
 use plant::Element;
 use rules::{ClientState, Lock, LockKind};
 
@@ -16,24 +16,14 @@ pub struct Inner {
     pub ties: [Option<Element>; 64],
 }
 
-const VACANT: Slot = Slot {
-    lock: Lock {
-        kind: LockKind::Read,
-        copy: 0,
-        changed: false,
-        taken: false,
-    },
-    element: Element(0),
-    used: false,
-};
-
 impl Inner {
+    #[tactic(auto, unfolding(crate::specs::Whole::fresh))]
     pub fn new() -> Inner
         ensures { result ≡ fresh }
     {
         let client = ClientRecord {
             state: ClientState::Idle,
-            slots: [VACANT; 32],
+            slots: [None; 32],
         };
         let cell = Cell {
             second: None,
@@ -52,29 +42,30 @@ impl Inner {
         requires { client < 16 }
         ensures { self.new ≡ entered_state self.old client state }
     {
-        let record = &mut self.clients[client];
-        record.state = state;
+        self.clients[client].state = state;
     }
 
-    // One slot of a client is set.
-    pub fn set_slot(&mut self, client: usize, place: usize, slot: Slot)
-        requires { (client < 16) × (place < 32) }
-        ensures { self.new ≡ with_slot self.old client place slot }
+    // A lock comes into one slot of a client.
+    pub fn set_slot(&mut self, client: usize, place: usize, held: Held)
+        requires client { client < 16 }
+        requires place { place < 32 }
+        ensures { self.new ≡ with_slot self.old client place held }
     {
-        let record = &mut self.clients[client];
-        record.slots[place] = slot;
+        self.clients[client].slots[place] = Some(held);
     }
 
     // A client loses all its locks and comes into a state.
+    #[tactic(auto, unfolding(crate::specs::Whole::no_locks))]
     pub fn leave(&mut self, client: usize, state: ClientState)
-        requires { (client < 16) × (length (client_of self.old client).slots ≡ 32) }
+        requires client { client < 16 }
+        requires slots { length (client_of self.old client).slots ≡ 32 }
         ensures { self.new ≡ left self.old client state }
     {
         let slots = self.clients[client].slots;
         release_all(&mut self.cells, &slots);
         self.clients[client] = ClientRecord {
             state,
-            slots: [VACANT; 32],
+            slots: [None; 32],
         };
     }
 
@@ -83,17 +74,16 @@ impl Inner {
         requires { element < 256 }
         ensures { self.new ≡ with_cell self.old element (written_hard (cell_of self.old element) number) }
     {
-        let cell = &mut self.cells[element];
-        cell.write_hard(number);
+        self.cells[element].write_hard(number);
     }
 
     // A new lock comes to an element's cell.
     pub fn gain(&mut self, element: usize, kind: LockKind, number: i64)
-        requires { (element < 256) × ((cell_of self.old element).holders < 65535) }
+        requires element { element < 256 }
+        requires room { (cell_of self.old element).holders < 65535 }
         ensures { self.new ≡ with_cell self.old element (gained (cell_of self.old element) kind number) }
     {
-        let cell = &mut self.cells[element];
-        cell.gain(kind, number);
+        self.cells[element].gain(kind, number);
     }
 
     // A reader of an element gains the write lock.
@@ -101,8 +91,7 @@ impl Inner {
         requires { element < 256 }
         ensures { self.new ≡ with_cell self.old element (raised (cell_of self.old element) kind number) }
     {
-        let cell = &mut self.cells[element];
-        cell.raise(kind, number);
+        self.cells[element].raise(kind, number);
     }
 
     // A pointer is tied or untied.
