@@ -8,7 +8,7 @@ use Rattle.plant.specs.declared.tables.Element.{Element}
 use Rattle.rules.specs.Scans.{at, some_below}
 use Rattle.rules.specs.State.{opening, is_write, for_writing, holds, locked}
 use Rattle.rules.specs.Locking.{leave, gain, granted_lock, mark_after}
-use Rattle.rules.specs.Calls.{with_client, hard_written}
+use Rattle.rules.specs.Calls.{hard_written}
 use Rattle.rules.specs.declared.ClientState.{ClientState}
 use Rattle.rules.specs.declared.ClientState.TheVariants.{Idle}
 use Rattle.rules.specs.declared.Lock.{Lock}
@@ -18,7 +18,7 @@ use Rattle.inner.specs.declared.cells.Cell.{Cell}
 use Rattle.inner.specs.declared.whole.Inner.{Inner}
 use Rattle.inner.specs.Slots.{on, lock_in, locks_on}
 use Rattle.inner.specs.Cells.{blank, written_hard}
-use Rattle.inner.specs.Whole.{nobody, client_of, cell_of, tie_of, no_locks, fresh, with_cell, entered_state, with_slot, left}
+use Rattle.inner.specs.Whole.{nobody, client_of, cell_of, tie_of, no_locks, fresh, with_cell, with_slot, left}
 use Rattle.book.specs.Sound.{Sound}
 use Rattle.book.specs.Model.{model}
 use Rattle.inner.proofs.ScanLaws.{some_alike, some_only}
@@ -66,16 +66,6 @@ unfolding no_locks
 no_lock_in e = refl
 
 module _ (m : Meaning) (n : Inner) where
-  pub model_enter : (c : ℕ) (after : ClientState) → c < length n.clients → model m (entered_state n c after) ≡ with_client (model m n) c after
-  model_enter c after l = λ i. record {
-    table = m;
-    clients = at_set (λ r. r.state) n.clients c (record { state = after; slots = (client_of n c).slots }) nobody l i;
-    locks = same_set (λ r. lock_in r.slots) n.clients c (record { state = after; slots = (client_of n c).slots }) nobody refl i;
-    marked = λ e. (cell_of n e).marked;
-    second = λ e. (cell_of n e).second;
-    ties = λ p. tie_of n p;
-  }
-
   -- A lock comes into a slot of a client, with none on its element before that place.
   module _ (c i : ℕ) (new : Held) where
     pub slot_locks : c < length n.clients → i < length (client_of n c).slots → ((k : ℕ) → k < i → on (get_or (client_of n c).slots k None) new.element.0 ≡ false) →
