@@ -5,12 +5,7 @@ use Rattle.std.proofs.lemmas.List.{length-set, get_or-set_same, get_or-set_other
 use Rattle.std.proofs.lemmas.Bool.{lt-ltb, le-ltb, cond-true, cond-false, ltb-true, and_parts, and_left, and_right, and_from, cases_eq}
 use Rattle.plant.specs.declared.refusals.Refusal.TheVariants.{NoSuchElement, NumberOutsideLimits}
 use Rattle.plant.specs.Meaning.{has, within, get_answer, put_answer, put_meaning, with_number}
-use Rattle.plant.specs.ByteTable.{word_at, image_count, cell_place, signed_16, bits_16, cell_number, first_values, image_meaning, with_cell, bytes_after_put}
-
-pub length_first_values : (n : ℕ) (f : ℕ → ℤ) → length (first_values n f) ≡ n
-unfolding first_values
-length_first_values zero f = refl
-length_first_values (suc n) f = ap suc (length_first_values n (λ k. f (suc k)))
+use Rattle.plant.specs.ByteTable.{word_at, image_count, cell_place, signed_16, bits_16, cell_number, first_values, length_first_values, image_meaning, with_cell, bytes_after_put}
 
 pub get_or_first_values : (n : ℕ) (f : ℕ → ℤ) (k : ℕ) (d : ℤ) → k < n → get_or (first_values n f) k d ≡ f k
 unfolding first_values

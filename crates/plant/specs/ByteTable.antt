@@ -1,8 +1,9 @@
 -- What an image means: two bytes for the count, then two bytes for each element, the higher byte first.
 use Rattle.std.specs.Prelude.{ℕ, zero, suc, ◌+◌, ◌-◌, ◌*◌, ◌/◌, ◌%◌, Bool, cond, ◌&&◌, List, [], ◌∷◌, length, ℤ, pos, negsuc, Ok, Err, Result, ◌==◌, nat_le, nat_lt, slice_index, slice_set}
+use Rattle.std.proofs.Common.{◌≡◌, refl, ap, arith, rules}
 use Rattle.plant.specs.declared.refusals.Refusal.{Refusal}
 use Rattle.plant.specs.declared.refusals.Refusal.TheVariants.{BadImage}
-use Rattle.plant.specs.Meaning.{Meaning, has, within}
+use Rattle.plant.specs.Meaning.{Meaning, IsTable, has, within}
 
 -- The 16-bit number in the two bytes from this place on, the higher byte first.
 abbrev pub word_at : List ℕ → ℕ → ℕ
@@ -46,9 +47,17 @@ unfoldable pub first_values : ℕ → (ℕ → ℤ) → List ℤ
 first_values zero f = []
 first_values (suc n) f = f 0 ∷ first_values n (λ k. f (suc k))
 
+pub length_first_values : (n : ℕ) (f : ℕ → ℤ) → length (first_values n f) ≡ n
+unfolding first_values
+length_first_values zero f = refl
+length_first_values (suc n) f = ap suc (length_first_values n (λ k. f (suc k)))
+
 -- The elements are the numbers in the image's cells, within the limits of 16 signed bits.
 abbrev pub image_meaning : List ℕ → Meaning
 image_meaning bytes = record { numbers = first_values (image_count bytes) (cell_number bytes); lowest = negsuc 32_767; highest = pos 32_767 }
+
+pub image_is_table : (bytes : List ℕ) → IsTable (image_meaning bytes)
+image_is_table bytes = record { few = rw length_first_values (grind arith); low = search rules; ordered = search rules; high = search rules }
 
 -- The bytes with a number in an element's cell.
 abbrev pub with_cell : List ℕ → ℕ → ℤ → List ℕ

@@ -1,5 +1,5 @@
 -- What a table means, and what get and put answer and leave, by that meaning.
-use Rattle.std.specs.Prelude.{ℕ, Bool, cond, not, ◌&&◌, List, length, ℤ, pos, Ok, Err, Result, int_lt, nat_lt, slice_index_or, slice_set}
+use Rattle.std.specs.Prelude.{ℕ, ◌≤◌, Bool, cond, not, ◌&&◌, List, length, ℤ, pos, negsuc, ◌≤ℤ◌, Ok, Err, Result, int_lt, nat_lt, slice_index_or, slice_set}
 use Rattle.plant.specs.declared.refusals.Refusal.{Refusal}
 use Rattle.plant.specs.declared.refusals.Refusal.TheVariants.{NoSuchElement, NumberOutsideLimits}
 
@@ -8,6 +8,13 @@ pub record Meaning : Type 0 where
   pub numbers : List ℤ
   pub lowest : ℤ
   pub highest : ℤ
+
+-- What every table keeps: few elements, and limits in order and not far from zero.
+pub record IsTable (m : Meaning) : Type 0 where
+  pub few : length m.numbers ≤ 256
+  pub low : negsuc 999_999_999_999 ≤ℤ m.lowest
+  pub ordered : m.lowest ≤ℤ m.highest
+  pub high : m.highest ≤ℤ pos 1_000_000_000_000
 
 -- Whether a table has an element of this number.
 abbrev pub has : Meaning → ℕ → Bool

@@ -1,7 +1,7 @@
 // A table on the caller's bytes: two for the count, then two for each element, the higher byte first.
 ghost use Rattle.std.specs.Prelude.{◌≡◌, ◌+◌, ◌/◌, ◌%◌, ◌<◌, ◌≤◌, length, pos, negsuc, ◌≤ℤ◌, IfOk, slice_set};
 ghost use Rattle.std.specs.Int.{w16, cast_unsigned};
-ghost use Rattle.plant.specs.ByteTable.{image_check, image_count, cell_number, image_meaning, bytes_after_put};
+ghost use Rattle.plant.specs.ByteTable.{image_is_table, image_check, image_count, cell_number, image_meaning, bytes_after_put};
 ghost use Rattle.plant.specs.Meaning.{get_answer, put_answer, put_meaning};
 
 use super::refusals::Refusal;
@@ -84,9 +84,10 @@ fn put_cell(bytes: &mut [u8], element: Element, number: i64) -> Result<(), Refus
 impl<'a> Table for Image<'a> {
     ghost meaning = { λ t. image_meaning t.bytes.now };
 
+    ghost kept = { λ table. image_is_table table.bytes.now };
+
     fn count(&self) -> u16
         ensures value { result ≡ length (image_meaning self.now.bytes.now).numbers }
-        ensures bound { result ≤ 256 }
         ensures cells { result ≡ image_count self.now.bytes.now }
     {
         cell_count(self.bytes)
@@ -94,7 +95,6 @@ impl<'a> Table for Image<'a> {
 
     fn lowest(&self) -> i64
         ensures value { result ≡ (image_meaning self.now.bytes.now).lowest }
-        ensures bound { negsuc 999_999_999_999 ≤ℤ result }
         ensures limit { result ≡ negsuc 32_767 }
     {
         i64::from(i16::MIN)
@@ -102,7 +102,6 @@ impl<'a> Table for Image<'a> {
 
     fn highest(&self) -> i64
         ensures value { result ≡ (image_meaning self.now.bytes.now).highest }
-        ensures bound { ((image_meaning self.now.bytes.now).lowest ≤ℤ result) × (result ≤ℤ pos 1_000_000_000_000) }
         ensures limit { result ≡ pos 32_767 }
     {
         i64::from(i16::MAX)

@@ -1,6 +1,6 @@
 // A table on the caller's list of 32-bit numbers.
 ghost use Rattle.std.specs.Prelude.{◌≡◌, ◌≤◌, min, length, pos, negsuc, ◌≤ℤ◌, IfOk, slice_index_or};
-ghost use Rattle.plant.specs.EntryTable.{list_meaning, entries_after_put};
+ghost use Rattle.plant.specs.EntryTable.{list_is_table, list_meaning, entries_after_put};
 ghost use Rattle.plant.specs.Meaning.{get_answer, put_answer, put_meaning};
 
 use super::refusals::Refusal;
@@ -61,9 +61,10 @@ fn put_entry(entries: &mut [i32], element: Element, number: i64) -> Result<(), R
 impl<'a> Table for NumberList<'a> {
     ghost meaning = { λ t. list_meaning t.entries.now };
 
+    ghost kept = { λ table. list_is_table table.entries.now };
+
     fn count(&self) -> u16
         ensures value { result ≡ length (list_meaning self.now.entries.now).numbers }
-        ensures bound { result ≤ 256 }
         ensures entries { result ≡ min 256 (length self.now.entries.now) }
     {
         entry_count(self.entries)
@@ -71,7 +72,6 @@ impl<'a> Table for NumberList<'a> {
 
     fn lowest(&self) -> i64
         ensures value { result ≡ (list_meaning self.now.entries.now).lowest }
-        ensures bound { negsuc 999_999_999_999 ≤ℤ result }
         ensures limit { result ≡ negsuc 2_147_483_647 }
     {
         i64::from(i32::MIN)
@@ -79,7 +79,6 @@ impl<'a> Table for NumberList<'a> {
 
     fn highest(&self) -> i64
         ensures value { result ≡ (list_meaning self.now.entries.now).highest }
-        ensures bound { ((list_meaning self.now.entries.now).lowest ≤ℤ result) × (result ≤ℤ pos 1_000_000_000_000) }
         ensures limit { result ≡ pos 2_147_483_647 }
     {
         i64::from(i32::MAX)

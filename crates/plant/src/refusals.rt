@@ -1,32 +1,36 @@
 // Every refusal of the project, by what it means.
-ghost use Rattle.std.specs.Prelude.{◌≡◌};
+ghost use Rattle.std.specs.Prelude.{◌≡◌, Some};
 ghost use Rattle.plant.specs.RefusalList.{refusal_number, refusal_words};
 
+use std::error::Error;
+use std::fmt;
+
+// A refusal's number is that of the published list; 23 to 25 are free.
 #[derive(Clone, Copy, PartialEq, Eq, Debug)]
 pub enum Refusal {
-    PointerOutOfRange,
-    PointerNotBound,
-    NumberOutsideLimits,
-    PointerAlreadyBound,
-    NoSuchElement,
-    ClientOutOfRange,
-    NotOpen,
-    AlreadyOpen,
-    AlreadyCommitting,
-    NotCommitting,
-    ThrownOut,
-    NotThrownOut,
-    NoLock,
-    TooManyLocks,
-    RankListTooShort,
-    WriteBacksLeft,
-    NoWriteBackLeft,
-    BufferTooShort,
-    NotScalable,
-    BadImage,
-    LineTooLong,
-    NotAForm,
-    NotOpenedOnce,
+    PointerOutOfRange = 1,
+    PointerNotBound = 2,
+    NumberOutsideLimits = 3,
+    PointerAlreadyBound = 4,
+    NoSuchElement = 5,
+    ClientOutOfRange = 6,
+    NotOpen = 7,
+    AlreadyOpen = 8,
+    AlreadyCommitting = 9,
+    NotCommitting = 10,
+    ThrownOut = 11,
+    NotThrownOut = 12,
+    NoLock = 13,
+    TooManyLocks = 14,
+    RankListTooShort = 15,
+    WriteBacksLeft = 16,
+    NoWriteBackLeft = 17,
+    BufferTooShort = 18,
+    NotScalable = 19,
+    BadImage = 20,
+    LineTooLong = 21,
+    NotAForm = 22,
+    NotOpenedOnce = 26,
 }
 
 impl Refusal {
@@ -34,31 +38,7 @@ impl Refusal {
     pub fn number(self) -> u8
         ensures { result ≡ refusal_number self }
     {
-        match self {
-            Refusal::PointerOutOfRange => 1,
-            Refusal::PointerNotBound => 2,
-            Refusal::NumberOutsideLimits => 3,
-            Refusal::PointerAlreadyBound => 4,
-            Refusal::NoSuchElement => 5,
-            Refusal::ClientOutOfRange => 6,
-            Refusal::NotOpen => 7,
-            Refusal::AlreadyOpen => 8,
-            Refusal::AlreadyCommitting => 9,
-            Refusal::NotCommitting => 10,
-            Refusal::ThrownOut => 11,
-            Refusal::NotThrownOut => 12,
-            Refusal::NoLock => 13,
-            Refusal::TooManyLocks => 14,
-            Refusal::RankListTooShort => 15,
-            Refusal::WriteBacksLeft => 16,
-            Refusal::NoWriteBackLeft => 17,
-            Refusal::BufferTooShort => 18,
-            Refusal::NotScalable => 19,
-            Refusal::BadImage => 20,
-            Refusal::LineTooLong => 21,
-            Refusal::NotAForm => 22,
-            Refusal::NotOpenedOnce => 26,
-        }
+        self as u8
     }
 
     // What the refusal says to a person.
@@ -93,3 +73,13 @@ impl Refusal {
         }
     }
 }
+
+impl fmt::Display for Refusal {
+    ghost output = { λ refusal. Some (refusal_words refusal) };
+
+    fn fmt<W: fmt::Write>(&self, f: &mut fmt::Formatter<W>) -> fmt::Result {
+        f.write_str(self.words())
+    }
+}
+
+impl Error for Refusal {}

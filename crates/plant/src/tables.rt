@@ -1,6 +1,6 @@
 // What a table is.
-ghost use Rattle.std.specs.Prelude.{◌≡◌, ◌≤◌, length, pos, negsuc, ◌≤ℤ◌, IfOk};
-ghost use Rattle.plant.specs.Meaning.{Meaning, get_answer, put_answer, put_meaning};
+ghost use Rattle.std.specs.Prelude.{◌≡◌, length, ◌≤ℤ◌, IfOk};
+ghost use Rattle.plant.specs.Meaning.{Meaning, IsTable, has, within, get_answer, put_answer, put_meaning};
 
 use super::refusals::Refusal;
 
@@ -12,16 +12,13 @@ pub trait Table {
     ghost meaning: { Self → Meaning };
 
     fn count(&self) -> u16
-        ensures value { result ≡ length (meaning self.now).numbers }
-        ensures bound { result ≤ 256 };
+        ensures { result ≡ length (meaning self.now).numbers };
 
     fn lowest(&self) -> i64
-        ensures value { result ≡ (meaning self.now).lowest }
-        ensures bound { negsuc 999_999_999_999 ≤ℤ result };
+        ensures { result ≡ (meaning self.now).lowest };
 
     fn highest(&self) -> i64
-        ensures value { result ≡ (meaning self.now).highest }
-        ensures bound { ((meaning self.now).lowest ≤ℤ result) × (result ≤ℤ pos 1_000_000_000_000) };
+        ensures { result ≡ (meaning self.now).highest };
 
     fn get(&self, element: Element) -> Result<i64, Refusal>
         ensures value { result ≡ get_answer (meaning self.now) element.0 }
@@ -30,4 +27,21 @@ pub trait Table {
     fn put(&mut self, element: Element, number: i64) -> Result<(), Refusal>
         ensures value { result ≡ put_answer (meaning self.old) element.0 number }
         ensures after { meaning self.new ≡ put_meaning (meaning self.old) element.0 number };
+
+    // A law of every table, which whoever needs a bound uses.
+    ghost kept: { (table : Self) → IsTable (meaning table) };
+
+    // Whether there is an element of this number.
+    final fn has(&self, element: Element) -> bool
+        ensures { result ≡ has (meaning self.now) element.0 }
+    {
+        element.0 < self.count()
+    }
+
+    // Whether a number lies within the limits.
+    final fn allows(&self, number: i64) -> bool
+        ensures { result ≡ within (meaning self.now) number }
+    {
+        (self.lowest()..=self.highest()).contains(&number)
+    }
 }

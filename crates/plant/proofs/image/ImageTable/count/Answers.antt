@@ -1,5 +1,5 @@
 use Rattle.std.proofs.Common.{rules}
-use Rattle.plant.proofs.Cells.{length_first_values}
+use Rattle.plant.specs.ByteTable.{length_first_values}
 use Rattle.plant.proofs.image.ImageTable.count.Goals as goal
 
 pub returns : goal.returns
