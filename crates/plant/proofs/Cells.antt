@@ -1,9 +1,10 @@
 -- What the rules of tables say of an image.
-use Rattle.std.proofs.Common.{◌≡◌, ℕ, zero, suc, ◌+◌, ◌*◌, ◌/◌, ◌%◌, ◌<◌, ◌≤◌, Bool, true, false, cond, not, ◌&&◌, ltb, ◌≢◌, ◌⊎◌, List, length, get_or, set, ℤ, pos, negsuc, Ok, Err, sym, refl, ap, ◌∙◌, inl, inr, arith, w16, SFits, to_z, of_z}
+use Rattle.std.proofs.Common.{◌≡◌, ℕ, zero, suc, ◌+◌, ◌*◌, ◌/◌, ◌%◌, ◌<◌, ◌≤◌, Bool, true, false, cond, not, ◌&&◌, ltb, ◌≢◌, ◌⊎◌, List, [], ◌∷◌, ◌++◌, length, get_or, take, drop, set, ℤ, pos, negsuc, Ok, Err, sym, refl, ap, ◌∙◌, inl, inr, arith, mul-zero, w16, to_z, of_z}
 use lib.Signed.{lt_z}
-use Rattle.std.proofs.lemmas.List.{length-set, get_or-set_same, get_or-set_other, same_lists}
-use Rattle.std.proofs.lemmas.Bool.{lt-ltb, le-ltb, cond-true, cond-false, ltb-true, and_parts, and_left, and_right, and_from, cases_eq}
-use Rattle.plant.specs.declared.refusals.Refusal.TheVariants.{NoSuchElement, NumberOutsideLimits}
+use Rattle.std.specs.Simd.{first_chunks}
+use Rattle.std.proofs.lemmas.List.{get_or-take, get_or-drop, drop-drop, length-set, get_or-set_same, get_or-set_other, same_lists}
+use Rattle.std.proofs.lemmas.Bool.{lt-ltb, le-ltb, cond-true, cond-false, ltb-true, and_parts, and_left, and_from, cases_eq}
+use Rattle.plant.specs.declared.refusals.Refusal.TheVariants.{NoSuchElement}
 use Rattle.plant.specs.Meaning.{has, within, get_answer, put_answer, put_meaning, with_number}
 use Rattle.plant.specs.ByteTable.{word_at, image_count, cell_place, signed_16, bits_16, cell_number, first_values, length_first_values, image_meaning, with_cell, bytes_after_put}
 
@@ -42,9 +43,31 @@ pub bits_back : (v : ℤ) → not (lt_z v (negsuc 32_767)) ≡ true → not (lt_
 bits_back (pos n) l h = (grind arith, grind arith)
 bits_back (negsuc n) l h = (grind arith, grind arith)
 
-pub bits_fit : (v : ℤ) → not (lt_z v (negsuc 32_767)) ≡ true → not (lt_z (pos 32_767) v) ≡ true → SFits w16 v
-bits_fit (pos n) l h = record { sfits = grind arith }
-bits_fit (negsuc n) l h = record { sfits = grind arith }
+-- Chunk e of m elements each begins at element m times e.
+pub get_or-first_chunks : {X : Type 0} (m n e : ℕ) (xs : List X) (d : List X) → e < n → get_or (first_chunks m n xs) e d ≡ take m (drop (m * e) xs)
+get_or-first_chunks m zero e xs d h = absurd (omega arith)
+get_or-first_chunks m (suc n) zero xs d h = rw mul-zero refl
+get_or-first_chunks m (suc n) (suc e) xs d h =
+    let next : m + m * e ≡ m * suc e = grind arith in
+    get_or-first_chunks m n e (drop m xs) d (omega arith) ∙ ap (take m) (drop-drop (m * e) m xs ∙ ap (λ (k : ℕ). drop k xs) next)
+
+-- A cell is read as the word that the rules state.
+pub cell_word : (bs cell : List ℕ) (e : ℕ) → cell ≡ take 2 (drop (2 * e) (drop 2 bs)) → get_or cell 0 0 * 256 + get_or cell 1 0 ≡ word_at bs (cell_place e)
+cell_word bs cell e is =
+    let high = byte 0 (cell_place e) (omega arith) (omega arith) in
+    let low = byte 1 (cell_place e + 1) (omega arith) (omega arith) in
+    omega arith where
+      byte : (k i : ℕ) → k < 2 → 2 + (2 * e + k) ≡ i → get_or cell k 0 ≡ get_or bs i 0
+      byte k i h at =
+          ap (λ (l : List ℕ). get_or l k 0) is ∙ get_or-take 2 (drop (2 * e) (drop 2 bs)) k 0 h ∙ get_or-drop (2 * e) (drop 2 bs) k 0
+          ∙ get_or-drop 2 bs (2 * e + k) 0 ∙ ap (λ (j : ℕ). get_or bs j 0) at
+
+-- Two elements written in a row.
+pub write_two : {X : Type 0} (xs : List X) (p : ℕ) (x y : X) → suc p < length xs → take p xs ++ ((x ∷ y ∷ []) ++ drop 2 (drop p xs)) ≡ set (set xs p x) (suc p) y
+write_two [] p x y h = absurd (omega arith)
+write_two (a ∷ []) p x y h = absurd (omega arith)
+write_two (a ∷ b ∷ xs) zero x y h = refl
+write_two (a ∷ b ∷ xs) (suc p) x y h = ap (λ l. a ∷ l) (write_two (b ∷ xs) p x y (omega arith))
 
 -- An element that the image has lies in its bytes.
 pub has_cell : (bs : List ℕ) (e : ℕ) → e < image_count bs → 3 + 2 * e < length bs
@@ -126,12 +149,20 @@ get_none bs e h = cond-false _ _ _ (has_not bs e h)
 pub put_none : (bs : List ℕ) (e : ℕ) (v : ℤ) → image_count bs ≤ e → (put_answer (image_meaning bs) e v ≡ Err NoSuchElement) × (bytes_after_put bs e v ≡ bs)
 put_none bs e v h = let no = has_not bs e h in (cond-false _ _ _ no, cond-false _ _ _ (and_left _ _ no))
 
-pub put_outside : (bs : List ℕ) (e : ℕ) (v : ℤ) → e < image_count bs → within (image_meaning bs) v ≡ false → (put_answer (image_meaning bs) e v ≡ Err NumberOutsideLimits) × (bytes_after_put bs e v ≡ bs)
-put_outside bs e v h w = (cond-true _ _ _ (has_so bs e h) ∙ cond-false _ _ _ w, cond-false _ _ _ (and_right _ _ w))
-
 pub put_done : (bs : List ℕ) (e : ℕ) (v : ℤ) → e < image_count bs → within (image_meaning bs) v ≡ true → (put_answer (image_meaning bs) e v ≡ Ok tt) × (bytes_after_put bs e v ≡ with_cell bs e v)
 put_done bs e v h w = (cond-true _ _ _ (has_so bs e h) ∙ cond-true _ _ _ w, cond-true _ _ _ (and_from _ _ (has_so bs e h) w))
 
 -- The two bytes that the machine makes of a number are the two that the rules state.
 pub bytes_of : (v : ℤ) → bits_16 v < 65_536 → (of_z w16 v / 256 % 256 ≡ bits_16 v / 256) × (of_z w16 v % 256 ≡ bits_16 v % 256)
 bytes_of v h = let is = bits_is v in (omega arith, omega arith)
+
+-- A number that is written into an element's two bytes leaves what the rules of a put state.
+pub put_written : (bs ws : List ℕ) (e p n : ℕ) (v : ℤ) → p ≡ cell_place e → n ≡ 2 → e < image_count bs → within (image_meaning bs) v ≡ true
+    → ws ≡ (of_z w16 v / 256 % 256) ∷ (of_z w16 v % 256) ∷ [] → take p bs ++ (ws ++ drop n (drop p bs)) ≡ bytes_after_put bs e v
+put_written bs ws e p n v place two there inside word =
+    let limits = and_parts _ _ inside in
+    let halves = bytes_of v (bits_back v limits.0 limits.1).0 in
+    let long : suc (cell_place e) < length bs = let last = has_cell bs e there in omega arith in
+    let wrote = write_two bs (cell_place e) (bits_16 v / 256) (bits_16 v % 256) long in
+    let next : suc (cell_place e) ≡ cell_place e + 1 = omega arith in
+    rw (place, two, word, halves.0, halves.1) (wrote ∙ ap (λ (i : ℕ). set (set bs (cell_place e) (bits_16 v / 256)) i (bits_16 v % 256)) next ∙ sym (put_done bs e v there inside).1)

@@ -1,18 +1,7 @@
 -- What the rules of tables say of a number list.
-use Rattle.std.proofs.Common.{◌≡◌, ℕ, zero, suc, ◌<◌, Bool, true, false, cond, ◌&&◌, ltb, List, [], ◌∷◌, length, get_or, take, set, ℤ, pos, negsuc, Ok, refl, ap, ◌∙◌, arith}
-use Rattle.std.proofs.lemmas.List.{length-take, get_or-take}
-use Rattle.std.proofs.lemmas.Bool.{lt-ltb, cond-true}
-use Rattle.plant.specs.Meaning.{has, within, get_answer, put_meaning, with_number}
+use Rattle.std.proofs.Common.{◌≡◌, ℕ, zero, suc, Bool, true, false, cond, ◌&&◌, List, [], ◌∷◌, take, set, ℤ, pos, negsuc, refl, ap}
+use Rattle.plant.specs.Meaning.{has, within, put_meaning, with_number}
 use Rattle.plant.specs.EntryTable.{list_meaning, entries_after_put}
-
--- An element that the list has is an entry, and lies below 256.
-pub has_entry : (xs : List ℤ) (e : ℕ) → e < length (take 256 xs) → (e < length xs) × (e < 256)
-has_entry xs e h = let l : length (take 256 xs) ≡ _ = length-take 256 xs in (omega arith, omega arith)
-
-pub get_is_entry : (xs : List ℤ) (e : ℕ) → e < length (take 256 xs) → get_answer (list_meaning xs) e ≡ Ok (get_or xs e (pos 0))
-get_is_entry xs e h =
-    cond-true (ltb e (length (take 256 xs))) (Ok (get_or (take 256 xs) e (pos 0))) _ (lt-ltb _ _ h)
-    ∙ ap (λ (v : ℤ). Ok v) (get_or-take 256 xs e (pos 0) (has_entry xs e h).1)
 
 -- Setting an entry sets the same entry of the first n.
 pub take_of_set : {X : Type 0} (n : ℕ) (xs : List X) (i : ℕ) (y : X) → take n (set xs i y) ≡ set (take n xs) i y

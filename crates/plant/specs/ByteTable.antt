@@ -3,7 +3,7 @@ use Rattle.std.specs.Prelude.{ℕ, zero, suc, ◌+◌, ◌-◌, ◌*◌, ◌/◌
 use Rattle.std.proofs.Common.{◌≡◌, refl, ap, arith, rules}
 use Rattle.plant.specs.declared.refusals.Refusal.{Refusal}
 use Rattle.plant.specs.declared.refusals.Refusal.TheVariants.{BadImage}
-use Rattle.plant.specs.Meaning.{Meaning, IsTable, has, within}
+use Rattle.plant.specs.Meaning.{Meaning, IsBounded, has, within}
 
 -- The 16-bit number in the two bytes from this place on, the higher byte first.
 abbrev pub word_at : List ℕ → ℕ → ℕ
@@ -56,8 +56,8 @@ length_first_values (suc n) f = ap suc (length_first_values n (λ k. f (suc k)))
 abbrev pub image_meaning : List ℕ → Meaning
 image_meaning bytes = record { numbers = first_values (image_count bytes) (cell_number bytes); lowest = negsuc 32_767; highest = pos 32_767 }
 
-pub image_is_table : (bytes : List ℕ) → IsTable (image_meaning bytes)
-image_is_table bytes = record { few = rw length_first_values (grind arith); low = search rules; ordered = search rules; high = search rules }
+pub image_is_bounded : (bytes : List ℕ) → IsBounded (image_meaning bytes)
+image_is_bounded bytes = record { few = rw length_first_values (grind arith); low = search rules; ordered = search rules; high = search rules }
 
 -- The bytes with a number in an element's cell.
 abbrev pub with_cell : List ℕ → ℕ → ℤ → List ℕ

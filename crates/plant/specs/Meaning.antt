@@ -9,8 +9,8 @@ pub record Meaning : Type 0 where
   pub lowest : ℤ
   pub highest : ℤ
 
--- What every table keeps: few elements, and limits in order and not far from zero.
-pub record IsTable (m : Meaning) : Type 0 where
+-- A table has at most 256 elements, and its limits are in order and within 10^12.
+pub record IsBounded (m : Meaning) : Type 0 where
   pub few : length m.numbers ≤ 256
   pub low : negsuc 999_999_999_999 ≤ℤ m.lowest
   pub ordered : m.lowest ≤ℤ m.highest

@@ -1,13 +1,14 @@
 // A table on the caller's bytes: two for the count, then two for each element, the higher byte first.
-ghost use Rattle.std.specs.Prelude.{◌≡◌, ◌+◌, ◌/◌, ◌%◌, ◌<◌, ◌≤◌, length, pos, negsuc, ◌≤ℤ◌, IfOk, slice_set};
-ghost use Rattle.std.specs.Int.{w16, cast_unsigned};
-ghost use Rattle.plant.specs.ByteTable.{image_is_table, image_check, image_count, cell_number, image_meaning, bytes_after_put};
-ghost use Rattle.plant.specs.Meaning.{get_answer, put_answer, put_meaning};
+ghost use Rattle.std.specs.Prelude.{IsTrue, drop, ◌≡◌, ◌+◌, ◌/◌, ◌%◌, ◌<◌, ◌≤◌, length, pos, negsuc, ◌≤ℤ◌, IfOk, slice_set};
+ghost use Rattle.std.specs.Simd.{first_chunks};
+ghost use Rattle.plant.specs.ByteTable.{image_is_bounded, image_check, cell_place, image_count, cell_number, image_meaning, bytes_after_put};
+ghost use Rattle.plant.specs.Meaning.{within, get_answer, put_answer, put_meaning};
 
 use super::refusals::Refusal;
 use super::tables::{Element, Table};
 
 // Bytes that are no image open as a table with no elements, so that they are never written.
+// Contracts name the field, so that who lent the bytes knows them again when the table is gone.
 #[derive(Drop)]
 pub struct Image<'a> {
     bytes: &'a mut [u8],
@@ -25,94 +26,62 @@ impl<'a> Image<'a> {
     pub fn check(bytes: &[u8]) -> Result<u16, Refusal>
         ensures { result ≡ image_check bytes.now }
     {
-        if bytes.len() < 2 {
-            return Err(Refusal::BadImage);
-        }
-        let count = u16::from_be_bytes([bytes[0], bytes[1]]);
-        if count > 256 || bytes.len() != 2 + 2 * count as usize {
+        let (count, cells) = bytes.split_first_chunk().ok_or(Refusal::BadImage)?;
+        let count = u16::from_be_bytes(*count);
+        if count > 256 || cells.len() != 2 * usize::from(count) {
             return Err(Refusal::BadImage);
         }
         Ok(count)
     }
-}
 
-fn cell_count(bytes: &[u8]) -> u16
-    ensures value { result ≡ image_count bytes.now }
-    ensures bound { result ≤ 256 }
-{
-    match Image::check(bytes) {
-        Ok(count) => count,
-        Err(_) => 0,
+    // The cells of the elements: none where the bytes are no image.
+    fn cells(&self) -> &[[u8; 2]]
+        ensures value { result.now ≡ first_chunks 2 (image_count self.now.bytes.now) (drop 2 self.now.bytes.now) }
+        ensures len { length result.now ≡ image_count self.now.bytes.now }
+    {
+        match Image::check(self.bytes) {
+            Ok(_) => self.bytes[2..].as_chunks().0,
+            Err(_) => &[],
+        }
     }
-}
-
-fn get_cell(bytes: &[u8], element: Element) -> Result<i64, Refusal>
-    ensures value { result ≡ get_answer (image_meaning bytes.now) element.0 }
-    ensures inside { IfOk result (λ v. (negsuc 32_767 ≤ℤ v) × (v ≤ℤ pos 32_767)) }
-    ensures cell { IfOk result (λ v. v ≡ cell_number bytes.now element.0) }
-{
-    if element.0 >= cell_count(bytes) {
-        return Err(Refusal::NoSuchElement);
-    }
-    let place = 2 + 2 * element.0 as usize;
-    Ok(i64::from(i16::from_be_bytes([bytes[place], bytes[place + 1]])))
-}
-
-fn write_cell(bytes: &mut [u8], place: usize, number: i16)
-    requires { place + 1 < length bytes.old }
-    ensures { bytes.new ≡ slice_set (slice_set bytes.old place (cast_unsigned w16 number / 256 % 256)) (place + 1) (cast_unsigned w16 number % 256) }
-{
-    let cell = number.to_be_bytes();
-    bytes[place] = cell[0];
-    bytes[place + 1] = cell[1];
-}
-
-fn put_cell(bytes: &mut [u8], element: Element, number: i64) -> Result<(), Refusal>
-    ensures value { result ≡ put_answer (image_meaning bytes.old) element.0 number }
-    ensures after { bytes.new ≡ bytes_after_put bytes.old element.0 number }
-{
-    if element.0 >= cell_count(bytes) {
-        return Err(Refusal::NoSuchElement);
-    }
-    if number < -32_768 || number > 32_767 {
-        return Err(Refusal::NumberOutsideLimits);
-    }
-    write_cell(bytes, 2 + 2 * element.0 as usize, number as i16);
-    Ok(())
 }
 
 impl<'a> Table for Image<'a> {
-    ghost meaning = { λ t. image_meaning t.bytes.now };
+    ghost meaning = { λ table. image_meaning table.bytes.now };
 
-    ghost kept = { λ table. image_is_table table.bytes.now };
+    ghost bounded = { λ table. image_is_bounded table.bytes.now };
 
     fn count(&self) -> u16
         ensures value { result ≡ length (image_meaning self.now.bytes.now).numbers }
         ensures cells { result ≡ image_count self.now.bytes.now }
     {
-        cell_count(self.bytes)
+        Image::check(self.bytes).unwrap_or(0)
     }
 
     fn lowest(&self) -> i64
-        ensures value { result ≡ (image_meaning self.now.bytes.now).lowest }
-        ensures limit { result ≡ negsuc 32_767 }
+        ensures { result ≡ negsuc 32_767 }
     {
         i64::from(i16::MIN)
     }
 
     fn highest(&self) -> i64
-        ensures value { result ≡ (image_meaning self.now.bytes.now).highest }
-        ensures limit { result ≡ pos 32_767 }
+        ensures { result ≡ pos 32_767 }
     {
         i64::from(i16::MAX)
     }
 
     fn get(&self, element: Element) -> Result<i64, Refusal>
         ensures value { result ≡ get_answer (image_meaning self.now.bytes.now) element.0 }
-        ensures inside { IfOk result (λ v. (negsuc 32_767 ≤ℤ v) × (v ≤ℤ pos 32_767)) }
+        ensures inside { IfOk result (λ v. IsTrue (within (image_meaning self.now.bytes.now) v)) }
         ensures cell { IfOk result (λ v. v ≡ cell_number self.now.bytes.now element.0) }
     {
-        get_cell(self.bytes, element)
+        let cell = self
+            .cells()
+            .get(usize::from(element.0))
+            .ok_or(Refusal::NoSuchElement)?;
+        // Taken apart, since the proof knows only of bytes that are read that they are below 256.
+        let [high, low] = *cell;
+        Ok(i64::from(i16::from_be_bytes([high, low])))
     }
 
     fn put(&mut self, element: Element, number: i64) -> Result<(), Refusal>
@@ -121,6 +90,13 @@ impl<'a> Table for Image<'a> {
         ensures bytes { self.new.bytes.now ≡ bytes_after_put self.old.bytes.now element.0 number }
         ensures lender { self.new.bytes.ghost_name ≡ self.old.bytes.ghost_name }
     {
-        put_cell(self.bytes, element, number)
+        if element.0 >= self.count() {
+            return Err(Refusal::NoSuchElement);
+        }
+        let number = i16::try_from(number).map_err(|_| Refusal::NumberOutsideLimits)?;
+        // Not by `as_chunks_mut`, which says nothing of the bytes afterwards.
+        let place = 2 + 2 * usize::from(element.0);
+        self.bytes[place..place + 2].copy_from_slice(&number.to_be_bytes());
+        Ok(())
     }
 }

@@ -1,6 +1,6 @@
 // What a table is.
-ghost use Rattle.std.specs.Prelude.{◌≡◌, length, ◌≤ℤ◌, IfOk};
-ghost use Rattle.plant.specs.Meaning.{Meaning, IsTable, has, within, get_answer, put_answer, put_meaning};
+ghost use Rattle.std.specs.Prelude.{◌≡◌, length, IsTrue, IfOk};
+ghost use Rattle.plant.specs.Meaning.{Meaning, IsBounded, has, within, get_answer, put_answer, put_meaning};
 
 use super::refusals::Refusal;
 
@@ -20,18 +20,21 @@ pub trait Table {
     fn highest(&self) -> i64
         ensures { result ≡ (meaning self.now).highest };
 
+    // That elements are within the limits is no law: a law is of any whole numbers, and only a read
+    // shows that a number has the bits of its type.
     fn get(&self, element: Element) -> Result<i64, Refusal>
         ensures value { result ≡ get_answer (meaning self.now) element.0 }
-        ensures inside { IfOk result (λ v. ((meaning self.now).lowest ≤ℤ v) × (v ≤ℤ (meaning self.now).highest)) };
+        ensures inside { IfOk result (λ v. IsTrue (within (meaning self.now) v)) };
 
     fn put(&mut self, element: Element, number: i64) -> Result<(), Refusal>
         ensures value { result ≡ put_answer (meaning self.old) element.0 number }
         ensures after { meaning self.new ≡ put_meaning (meaning self.old) element.0 number };
 
-    // A law of every table, which whoever needs a bound uses.
-    ghost kept: { (table : Self) → IsTable (meaning table) };
+    // A law: at most 256 elements, and limits in order and within 10^12.
+    ghost bounded: { (table : Self) → IsBounded (meaning table) };
 
-    // Whether there is an element of this number.
+    // Whether there is an element of this number. An impl's own methods cannot call it, since its
+    // proof stands on theirs.
     final fn has(&self, element: Element) -> bool
         ensures { result ≡ has (meaning self.now) element.0 }
     {

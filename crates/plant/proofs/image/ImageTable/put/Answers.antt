@@ -1,16 +1,16 @@
-use Rattle.std.proofs.Common.{refl, ap, ◌∙◌, rules}
-use Rattle.std.proofs.lemmas.Int.{to_z-of_z}
-use Rattle.plant.specs.ByteTable.{image_meaning}
-use Rattle.plant.proofs.Cells.{put_is_bytes}
+use Rattle.std.proofs.Common.{◌≡◌, ◌+◌, ◌-◌, ◌*◌, ◌<◌, true, ap, ◌∙◌, refl, arith, rules}
+use Rattle.plant.specs.ByteTable.{image_count, image_meaning}
+use Rattle.plant.specs.Meaning.{within}
+use Rattle.plant.proofs.Cells.{put_is_bytes, put_written}
 use Rattle.plant.proofs.image.ImageTable.put.Goals as goal
 
 pub returns : goal.returns
 returns c =
-    let fits = c.ranges.number in
-    let set = simp to_z-of_z at c.put_cell.ensures.after in
-    record {
-      value = search rules;
-      after = ap image_meaning set ∙ put_is_bytes c.args.self.now.bytes.now c.args.element.0 c.args.number;
-      bytes = set;
-      lender = refl;
-    }
+    let bytes = c.args.self.now.bytes.now in
+    let e = c.args.element.0 in
+    let v = c.args.number in
+    let there : e < image_count bytes = omega (arith, c.count.ensures.cells) in
+    let inside : within (image_meaning bytes) v ≡ true = search rules in
+    let place = 2 + 2 * c.from.result in
+    let set = put_written bytes c.copy_from_slice.new.self e place (place + 2 - place) v (omega (arith, c.from.ensures)) (omega arith) there inside (search rules) in
+    record { value = search rules; after = ap image_meaning set ∙ put_is_bytes bytes e v; bytes = set; lender = refl }
