@@ -1,5 +1,5 @@
 -- What an image means: two bytes for the count, then two bytes for each element, the higher byte first.
-use Rattle.std.specs.Prelude.{ℕ, zero, suc, ◌+◌, ◌-◌, ◌*◌, ◌/◌, ◌%◌, Bool, cond, ◌&&◌, List, [], ◌∷◌, length, ℤ, pos, negsuc, Ok, Err, Result, ◌==◌, nat_le, nat_lt, slice_index, slice_set}
+use Rattle.std.specs.Prelude.{ℕ, zero, suc, ◌+◌, ◌-◌, ◌*◌, ◌/◌, ◌%◌, Bool, if◌then◌else◌, ◌&&◌, List, [], ◌∷◌, length, ℤ, pos, negsuc, Ok, Err, Result, ◌==◌, nat_le, nat_lt, slice_index, slice_set}
 use Rattle.std.proofs.Common.{◌≡◌, refl, ap, arith, rules}
 use Rattle.plant.specs.declared.refusals.Refusal.{Refusal}
 use Rattle.plant.specs.declared.refusals.Refusal.TheVariants.{BadImage}
@@ -19,11 +19,11 @@ is_image bytes = nat_le 2 (length bytes) && (nat_le (stated_count bytes) 256 && 
 
 -- What the image check answers: the count, or that the bytes are no image.
 abbrev pub image_check : List ℕ → Result ℕ Refusal
-image_check bytes = cond (is_image bytes) (Ok (stated_count bytes)) (Err BadImage)
+image_check bytes = if is_image bytes then Ok (stated_count bytes) else Err BadImage
 
 -- Bytes that are no image open as a table with no elements.
 abbrev pub image_count : List ℕ → ℕ
-image_count bytes = cond (is_image bytes) (stated_count bytes) 0
+image_count bytes = if is_image bytes then stated_count bytes else 0
 
 -- The place of an element's higher byte; its lower byte is the next.
 abbrev pub cell_place : ℕ → ℕ
@@ -31,7 +31,7 @@ cell_place e = 2 + 2 * e
 
 -- The signed number that 16 bits stand for in two's complement.
 abbrev pub signed_16 : ℕ → ℤ
-signed_16 bits = cond (nat_lt bits 32_768) (pos bits) (negsuc (65_535 - bits))
+signed_16 bits = if nat_lt bits 32_768 then pos bits else negsuc (65_535 - bits)
 
 -- The 16 bits that stand for a signed number in two's complement.
 abbrev pub bits_16 : ℤ → ℕ
@@ -65,4 +65,4 @@ with_cell bytes e v = slice_set (slice_set bytes (cell_place e) (bits_16 v / 256
 
 -- What a put leaves: the element's own two bytes set, or every byte as it was where the put is refused.
 abbrev pub bytes_after_put : List ℕ → ℕ → ℤ → List ℕ
-bytes_after_put bytes e v = cond (has (image_meaning bytes) e && within (image_meaning bytes) v) (with_cell bytes e v) bytes
+bytes_after_put bytes e v = if has (image_meaning bytes) e && within (image_meaning bytes) v then with_cell bytes e v else bytes

@@ -1,5 +1,5 @@
 -- What a number list means: which entry of the caller's list each element is, and what a put leaves there.
-use Rattle.std.specs.Prelude.{ℕ, cond, ◌&&◌, List, take, ℤ, pos, negsuc, slice_set}
+use Rattle.std.specs.Prelude.{ℕ, if◌then◌else◌, ◌&&◌, List, take, ℤ, pos, negsuc, slice_set}
 use Rattle.std.proofs.Common.{arith, rules}
 use Rattle.std.proofs.lemmas.List.{length-take}
 use Rattle.plant.specs.Meaning.{Meaning, IsBounded, has, within}
@@ -13,4 +13,4 @@ list_is_bounded entries = record { few = rw length-take (omega arith); low = sea
 
 -- What a put leaves: the element's own entry set, or every entry as it was where the put is refused.
 abbrev pub entries_after_put : List ℤ → ℕ → ℤ → List ℤ
-entries_after_put entries e v = cond (has (list_meaning entries) e && within (list_meaning entries) v) (slice_set entries e v) entries
+entries_after_put entries e v = if has (list_meaning entries) e && within (list_meaning entries) v then slice_set entries e v else entries

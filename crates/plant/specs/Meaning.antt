@@ -1,5 +1,5 @@
 -- What a table means, and what get and put answer and leave, by that meaning.
-use Rattle.std.specs.Prelude.{ℕ, ◌≤◌, Bool, cond, not, ◌&&◌, List, length, ℤ, pos, negsuc, ◌≤ℤ◌, Ok, Err, Result, int_lt, nat_lt, slice_index_or, slice_set}
+use Rattle.std.specs.Prelude.{ℕ, ◌≤◌, Bool, if◌then◌else◌, not, ◌&&◌, List, length, ℤ, pos, negsuc, ◌≤ℤ◌, Ok, Err, Result, int_lt, nat_lt, slice_index_or, slice_set}
 use Rattle.plant.specs.declared.refusals.Refusal.{Refusal}
 use Rattle.plant.specs.declared.refusals.Refusal.TheVariants.{NoSuchElement, NumberOutsideLimits}
 
@@ -34,12 +34,12 @@ with_number m e v = record { numbers = slice_set m.numbers e v; lowest = m.lowes
 
 -- What get answers: the element's number, or that there is no such element.
 abbrev pub get_answer : Meaning → ℕ → Result ℤ Refusal
-get_answer m e = cond (has m e) (Ok (number m e)) (Err NoSuchElement)
+get_answer m e = if has m e then Ok (number m e) else Err NoSuchElement
 
 -- What put answers: first whether there is such an element, then whether the number lies within the limits.
 abbrev pub put_answer : Meaning → ℕ → ℤ → Result (Unit {0}) Refusal
-put_answer m e v = cond (has m e) (cond (within m v) (Ok tt) (Err NumberOutsideLimits)) (Err NoSuchElement)
+put_answer m e v = if has m e then (if within m v then Ok tt else Err NumberOutsideLimits) else Err NoSuchElement
 
 -- What put leaves: that element set and no other, or the table as it was where put is refused.
 abbrev pub put_meaning : Meaning → ℕ → ℤ → Meaning
-put_meaning m e v = cond (has m e) (cond (within m v) (with_number m e v) m) m
+put_meaning m e v = if has m e then (if within m v then with_number m e v else m) else m
