@@ -81,7 +81,7 @@ impl Book {
     }
 
     // Whether a client has fewer than 32 locks.
-    pub fn has_room(&self, client: Client) -> bool
+    pub(crate) fn has_room(&self, client: Client) -> bool
         ensures { result ≡ nat_lt (lock_total self.now.inner client.0) 32 }
     {
         self.record(client)

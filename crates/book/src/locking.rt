@@ -3,25 +3,45 @@ ghost use Rattle.std.specs.Prelude.{◌≡◌, ◌&&◌};
 ghost use Rattle.ranks.specs.Standing.{stands_above};
 ghost use Rattle.rules.specs.Scans.{some_below};
 ghost use Rattle.rules.specs.State.{is_committing};
-ghost use Rattle.rules.specs.Locking.{leave as leaving};
+ghost use Rattle.rules.specs.Locking.{covers, leave as leaving};
 ghost use Rattle.rules.specs.declared.ClientState.TheVariants.{ThrownOut};
+ghost use Rattle.inner.specs.Slots.{lock_in};
 ghost use Rattle.inner.specs.Whole.{client_of};
 ghost use Rattle.book.specs.Model.{Becomes};
-ghost use Rattle.book.specs.Requests.{blocks};
+ghost use Rattle.book.specs.Requests.{blocks, finds_room};
 
 use super::keeping::Book;
 use super::requests::{Request, Turn};
 use ranks::{Client, Rank, stands_above};
-use rules::ClientState;
+use rules::{ClientState, LockKind};
 
 impl Book {
+    // Whether the client's own lock covers its request.
+    pub fn is_covered(&self, request: Request) -> bool
+        ensures { result ≡ covers (lock_in (client_of self.now.inner request.client.0).slots request.element.0) request.kind }
+    {
+        let held = self.lock_of(request.client, request.element);
+        held.is_some_and(|lock| request.kind == LockKind::Read || lock.kind == LockKind::Write)
+    }
+
+    // Whether the client holds the element already, or has room for one lock more.
+    pub fn finds_room(&self, request: Request) -> bool
+        ensures { result ≡ finds_room self.now.inner request }
+    {
+        let held = self.lock_of(request.client, request.element);
+        held.is_some() || self.has_room(request.client)
+    }
+
     // Whether another client stands in the way of a request.
     fn is_blocked_by(&self, request: Request, other: Client) -> bool
         ensures { result ≡ blocks self.now.inner request other.0 }
     {
         let held = self.lock_of(other, request.element);
         let marked = self.is_marked(request.element);
-        other != request.client && request.conflicts_with(held, marked)
+        other != request.client
+            && held.is_some_and(|lock| {
+                request.kind == LockKind::Write || lock.kind == LockKind::Write || marked
+            })
     }
 
     // Whether a client that stands in the way of a request also stands above.
