@@ -1,28 +1,27 @@
 -- The changes of the book: each keeps it sound and is one of the rules' changes.
-use Rattle.std.proofs.Common.{◌≡◌, ℕ, suc, ◌+◌, ◌<◌, ◌≤◌, Bool, true, false, cond, not, ◌&&◌, ◌||◌, eqb, ltb, List, [], ◌∷◌, length, get_or, ℤ, pos, is_some, Some, None, sym, refl, ap, ◌∙◌, subst, arith}
-use Rattle.std.proofs.lemmas.Bool.{cond-false, and_left, and_right, le-ltb, eq-eqb, eqb-true, and_parts, not-true, ltb-true}
+use Rattle.std.proofs.Common.{◌≡◌, ℕ, suc, ◌<◌, ◌≤◌, true, false, cond, ◌||◌, eqb, ltb, List, [], ◌∷◌, length, get_or, ℤ, is_some, is_none, Some, None, Option, sym, refl, ap, ◌∙◌, subst, arith}
+use Rattle.std.specs.List.{position}
+use Rattle.std.proofs.lemmas.Bool.{eqb-true}
+use Rattle.std.proofs.lemmas.List.Quantifiers.{position-Some}
 use Rattle.plant.specs.Meaning.{Meaning, number}
 use Rattle.rules.specs.State.{is_write}
-use Rattle.rules.specs.Scans.{count_below}
-use Rattle.rules.specs.Locking.{conflicts, lock_conflicts, leave, gain, granted_lock, mark_after}
-use Rattle.rules.specs.declared.ClientState.{ClientState}
-use Rattle.rules.specs.declared.ClientState.TheVariants.{ThrownOut}
+use Rattle.rules.specs.Locking.{gain, granted_lock, mark_after}
 use Rattle.rules.specs.Calls.{with_lock}
 use Rattle.rules.specs.declared.Lock.{Lock}
 use Rattle.rules.specs.declared.LockKind.{LockKind}
-use Rattle.inner.specs.declared.slots.Slot.{Slot}
+use Rattle.inner.specs.declared.slots.Held.{Held}
 use Rattle.inner.specs.declared.slots.ClientRecord.{ClientRecord}
 use Rattle.inner.specs.declared.cells.Cell.{Cell}
 use Rattle.inner.specs.declared.whole.Inner.{Inner}
-use Rattle.inner.specs.Slots.{vacant, on, free, first_place, lock_in, locks_on}
+use Rattle.inner.specs.Slots.{on, lock_in, locks_on}
 use Rattle.inner.specs.Cells.{gained, raised}
 use Rattle.inner.specs.Whole.{nobody, client_of, cell_of, tie_of, with_cell, with_slot}
-use Rattle.inner.proofs.SlotLaws.{lock_at_place, on_at_place, on_one, place_past}
+use Rattle.inner.proofs.SlotLaws.{lock_missing, on_one, nowhere_on}
 use Rattle.book.specs.Sound.{all_locks, Sized, Counted, Sound}
 use Rattle.book.specs.Model.{model}
-use Rattle.book.specs.Blocking.{blocks}
-use Rattle.book.proofs.ReadLaws.{past_clients, room_left}
-use Rattle.book.proofs.LeaveLaws.{leave_more, leave_past}
+use Rattle.book.specs.Requests.{finds_room, lock_total}
+use Rattle.book.specs.declared.requests.Request.{Request}
+use Rattle.book.proofs.ReadLaws.{place_known, room_left}
 use Rattle.book.proofs.SoundLaws.{sound_slot, sound_gain, sound_raise}
 use Rattle.book.proofs.ModelLaws.{slot_locks, slot_clients, model_grant, mark_new}
 
@@ -31,121 +30,91 @@ pub owed : (n after : Inner) → n ≡ after → Sound after → record { sized 
 owed n after e sound = let P : Inner → Type 0 = λ x. Sound x in let s = subst P (sym e) sound in record { sized = s.0; counted = s.1 }
 
 -- There are at most as many locks on an element as clients.
-pub few_locks : (rs : List ClientRecord) (e : ℕ) → ((c : ℕ) → locks_on (get_or rs c nobody).slots e ≤ 1) → all_locks rs e ≤ length rs
+few_locks : (rs : List ClientRecord) (e : ℕ) → ((c : ℕ) → locks_on (get_or rs c nobody).slots e ≤ 1) → all_locks rs e ≤ length rs
 few_locks [] e once = omega arith
 few_locks (r ∷ rs) e once = let h = few_locks rs e (λ c. once (suc c)) in omega (arith, once 0)
 
 pub few_holders : (n : Inner) → Sound n → (e : ℕ) → (cell_of n e).holders < 65535
 few_holders n sound e = omega (arith, few_locks n.clients e (λ c. sound.1.1 c e), sound.1.2 e, sound.0.0)
 
--- Where an element has a lock, its place is one of the slots.
-pub place_in : (slots : List Slot) (e : ℕ) → is_some (lock_in slots e) ≡ true → first_place (λ s. on s e) slots < length slots
-place_in slots e t = ltb-true (first_place (λ s. on s e) slots) (length slots) (go (ltb (first_place (λ s. on s e) slots) (length slots)) (lock_at_place slots e))
-  where
-    go : (b : Bool) → lock_in slots e ≡ cond b (Some (get_or slots (first_place (λ s. on s e) slots) vacant).lock) None → b ≡ true
-    go true h = refl
-    go false h = sym (ap is_some h) ∙ t
+-- Where an element has a lock, there is a place on it.
+pub place_there : {X : Type 0} (slots : List (Option Held)) (e : ℕ) (x y : X) → is_some (lock_in slots e) ≡ true → position (λ s. on s e) slots ≡ None → x ≡ y
+place_there slots e x y held none = let h = lock_missing slots e none in absurd (cc (held, ap is_some h))
 
 -- A slot on an element is on another number exactly if that is the element.
-pub on_same : (s : Slot) (e : ℕ) → on s e ≡ true → (q : ℕ) → eqb e q ≡ on s q
-on_same s e t q =
-    let h = and_parts s.used (eqb s.element.0 e) t in
-    ap (λ k. eqb k q) (sym (eqb-true s.element.0 e h.1)) ∙ ap (λ b. b && eqb s.element.0 q) (sym h.0)
+on_same : (s : Option Held) (e : ℕ) → on s e ≡ true → (q : ℕ) → eqb e q ≡ on s q
+on_same None e t q = cc
+on_same (Some h) e t q = ap (λ k. eqb k q) (sym (eqb-true h.element.0 e t))
 
--- A slot in use on an element.
-abbrev pub slot_on : Lock → ℕ → Slot
-slot_on l e = record { lock = l; element = record { 0 = e }; used = true }
-
-module _ (n : Inner) (sound : Sound n) (c e : ℕ) (l : c < 16) where
+module _ (n : Inner) (sound : Sound n) (c : ℕ) (new : Held) (place : ℕ) where
   -- A lock takes the place of another on its element.
-  module _ (held : is_some (lock_in (client_of n c).slots e) ≡ true) (place : ℕ) (is : place ≡ first_place (λ s. on s e) (client_of n c).slots) where
-    pub place_small : place < 32
-    place_small = omega (arith, place_in (client_of n c).slots e held, sound.1.0 c l)
+  module _ (is : position (λ s. on s new.element.0) (client_of n c).slots ≡ Some place) where
+    known : (c < 16) × (place < 32)
+    known = place_known n sound (λ s. on s new.element.0) c place is
 
-    on_old : on (get_or (client_of n c).slots place vacant) e ≡ true
-    on_old = ap (λ k. on (get_or (client_of n c).slots k vacant) e) is ∙ on_at_place (λ s. on s e) (client_of n c).slots (place_in (client_of n c).slots e held)
+    first : (place < length (client_of n c).slots) × (on (get_or (client_of n c).slots place None) new.element.0 ≡ true) × ((k : ℕ) → k < place → on (get_or (client_of n c).slots k None) new.element.0 ≡ false)
+    first = position-Some (λ s. on s new.element.0) (client_of n c).slots place None is
 
-    pub other_sound : (new : Lock) → Sound (with_slot n c place (slot_on new e))
-    other_sound new = sound_slot n sound c place (slot_on new e) l place_small (on_same (get_or (client_of n c).slots place vacant) e on_old)
+    others : (q : ℕ) → (q ≡ new.element.0 → ⊥) → on (get_or (client_of n c).slots place None) q ≡ false
+    others q ne = on_one (get_or (client_of n c).slots place None) new.element.0 q first.1 ne
 
-    pub other_model : (new : Lock) (m : Meaning) → model m (with_slot n c place (slot_on new e)) ≡ with_lock (model m n) c e new
-    other_model new m = λ j. record {
+    pub other_sound : Sound (with_slot n c place new)
+    other_sound = sound_slot n sound c place new known.0 known.1 (on_same (get_or (client_of n c).slots place None) new.element.0 first.1)
+
+    pub other_model : (m : Meaning) → model m (with_slot n c place new) ≡ with_lock (model m n) c new.element.0 new.lock
+    other_model m = λ j. record {
       table = m;
-      clients = slot_clients m n c place (slot_on new e) j;
-      locks = slot_locks m n c place (slot_on new e) e (omega (arith, sound.0.0)) (omega (arith, place_small, sound.1.0 c l)) (omega arith) (eq-eqb e e refl)
-          (λ q ne. on_one (get_or (client_of n c).slots place vacant) e q on_old ne) j;
+      clients = slot_clients m n c place new j;
+      locks = slot_locks m n c place new (omega (arith, known.0, sound.0.0)) first.0 first.2 others j;
       marked = λ e. (cell_of n e).marked;
       second = λ e. (cell_of n e).second;
       ties = λ p. tie_of n p;
     }
 
     -- A reader gains the write lock.
-    pub raise_sound : (new : Lock) (kind : LockKind) (v : ℤ) → Sound (with_cell (with_slot n c place (slot_on new e)) e (raised (cell_of n e) kind v))
-    raise_sound new kind v = sound_raise n sound c place (slot_on new e) e (raised (cell_of n e) kind v) l place_small (on_same (get_or (client_of n c).slots place vacant) e on_old) refl
+    module _ (kind : LockKind) (v : ℤ) where
+      pub raise_sound : Sound (with_cell (with_slot n c place new) new.element.0 (raised (cell_of n new.element.0) kind v))
+      raise_sound = sound_raise n sound c place new (raised (cell_of n new.element.0) kind v) known.0 known.1 (on_same (get_or (client_of n c).slots place None) new.element.0 first.1) refl
 
-    pub raise_model : (was : Lock) (kind : LockKind) (v : ℤ) (m : Meaning) → e < 256 → lock_in (client_of n c).slots e ≡ Some was → number m e ≡ v →
-        model m (with_cell (with_slot n c place (slot_on (record { kind = kind; copy = was.copy; changed = was.changed; taken = was.taken }) e)) e (raised (cell_of n e) kind v)) ≡ gain c kind e (model m n)
-    raise_model was kind v m le h num =
-        model_grant m n sound c place (slot_on (record { kind = kind; copy = was.copy; changed = was.changed; taken = was.taken }) e) kind e (raised (cell_of n e) kind v)
-        l le (omega (arith, place_small, sound.1.0 c l)) (omega arith) (eq-eqb e e refl) (λ q ne. on_one (get_or (client_of n c).slots place vacant) e q on_old ne)
-        (ap (granted_lock (model m n) kind e) (sym h)) (ap (mark_after (model m n) c e) (sym h)) (ap (λ w. cond (is_write kind) (Some w) (cell_of n e).second) (sym num))
+      pub raise_model : (was : Lock) → new.element.0 < 256 → lock_in (client_of n c).slots new.element.0 ≡ Some was →
+          new.lock ≡ record { copy = was.copy; kind = kind; changed = was.changed; taken = was.taken } → (m : Meaning) → number m new.element.0 ≡ v →
+          model m (with_cell (with_slot n c place new) new.element.0 (raised (cell_of n new.element.0) kind v)) ≡ gain c kind new.element.0 (model m n)
+      raise_model was le h lock m num =
+          model_grant m n sound c place new kind (raised (cell_of n new.element.0) kind v) known.0 le first.0 first.2 others
+          (lock ∙ ap (granted_lock (model m n) kind new.element.0) (sym h)) (ap (mark_after (model m n) c new.element.0) (sym h))
+          (ap (λ w. cond (is_write kind) (Some w) (cell_of n new.element.0).second) (sym num))
 
   -- A new lock comes into a free slot.
-  module _ (none : lock_in (client_of n c).slots e ≡ None) (place : ℕ) (is : place ≡ first_place free (client_of n c).slots) (le : e < 256) (room : place < 32) where
-    unused : (get_or (client_of n c).slots place vacant).used ≡ false
-    unused = not-true (get_or (client_of n c).slots place vacant).used
-        (ap (λ k. free (get_or (client_of n c).slots k vacant)) is ∙ on_at_place free (client_of n c).slots (omega (arith, sound.1.0 c l)))
+  module _ (is : position is_none (client_of n c).slots ≡ Some place) (le : new.element.0 < 256) (none : lock_in (client_of n c).slots new.element.0 ≡ None) (kind : LockKind) (v : ℤ) where
+    at_place : (c < 16) × (place < 32)
+    at_place = place_known n sound is_none c place is
 
-    pub add_sound : (new : Lock) (kind : LockKind) (v : ℤ) → Sound (with_cell (with_slot n c place (slot_on new e)) e (gained (cell_of n e) kind v))
-    add_sound new kind v = sound_gain n sound c place (slot_on new e) e (gained (cell_of n e) kind v) l room le unused none (λ q. refl) refl
+    unused : get_or (client_of n c).slots place None ≡ None
+    unused = go (get_or (client_of n c).slots place None) (position-Some is_none (client_of n c).slots place None is).1
+      where
+        go : (s : Option Held) → is_none s ≡ true → s ≡ None
+        go None t = refl
+        go (Some h) t = absurd (cc)
 
-    pub add_model : (kind : LockKind) (v : ℤ) (m : Meaning) → number m e ≡ v →
-        model m (with_cell (with_slot n c place (slot_on (record { kind = kind; copy = v; changed = false; taken = false }) e)) e (gained (cell_of n e) kind v)) ≡ gain c kind e (model m n)
-    add_model kind v m num =
-        model_grant m n sound c place (slot_on (record { kind = kind; copy = v; changed = false; taken = false }) e) kind e (gained (cell_of n e) kind v)
-        l le (omega (arith, sound.1.0 c l)) (omega (arith, place_past (client_of n c).slots e none, sound.1.0 c l)) (eq-eqb e e refl)
-        (λ q ne. ap (λ b. b && eqb (get_or (client_of n c).slots place vacant).element.0 q) unused)
-        (ap (λ w. record { kind = kind; copy = w; changed = false; taken = false }) (sym num) ∙ ap (granted_lock (model m n) kind e) (sym none))
-        (mark_new m n sound c e none) (ap (λ w. cond (is_write kind) (Some w) (cell_of n e).second) (sym num))
+    pub add_sound : Sound (with_cell (with_slot n c place new) new.element.0 (gained (cell_of n new.element.0) kind v))
+    add_sound = sound_gain n sound c place new at_place.0 at_place.1 (gained (cell_of n new.element.0) kind v) le unused none refl
+
+    pub add_model : new.lock ≡ record { copy = v; kind = kind; changed = false; taken = false } → (m : Meaning) → number m new.element.0 ≡ v →
+        model m (with_cell (with_slot n c place new) new.element.0 (gained (cell_of n new.element.0) kind v)) ≡ gain c kind new.element.0 (model m n)
+    add_model lock m num =
+        model_grant m n sound c place new kind (gained (cell_of n new.element.0) kind v) at_place.0 le (position-Some is_none (client_of n c).slots place None is).0
+        (λ k l. nowhere_on (client_of n c).slots new.element.0 none k) (λ q ne. ap (λ s. on s q) unused)
+        (lock ∙ ap (λ w. record { copy = w; kind = kind; changed = false; taken = false }) (sym num) ∙ ap (granted_lock (model m n) kind new.element.0) (sym none))
+        (mark_new m n sound c new.element.0 none) (ap (λ w. cond (is_write kind) (Some w) (cell_of n new.element.0).second) (sym num))
 
 -- A slot is set, and then a cell.
-pub both_set : (n one two : Inner) (c i e : ℕ) (s : Slot) (f : Cell → Cell) → one ≡ with_slot n c i s → two ≡ with_cell one e (f (cell_of one e)) →
-    two ≡ with_cell (with_slot n c i s) e (f (cell_of n e))
-both_set n one two c i e s f p q = q ∙ ap (λ x. with_cell x e (f (cell_of x e))) p
+pub both_set : (n one two : Inner) (c i e : ℕ) (h : Held) (f : Cell → Cell) → one ≡ with_slot n c i h → two ≡ with_cell one e (f (cell_of one e)) →
+    two ≡ with_cell (with_slot n c i h) e (f (cell_of n e))
+both_set n one two c i e h f p q = q ∙ ap (λ x. with_cell x e (f (cell_of x e))) p
 
--- A client stands in the way as before, while others below it have left.
-pub blocks_kept : (n before : Inner) (those : ℕ → Bool) (after : ClientState) (c : ℕ) (kind : LockKind) (e i : ℕ) →
-    ((m : Meaning) → model m n ≡ leave (λ d. ltb d i && those d) after (model m before)) → blocks n c kind e i ≡ blocks before c kind e i
-blocks_kept n before those after c kind e i same =
-    ap (λ s. conflicts s c kind e i) (same (record { numbers = []; lowest = pos 0; highest = pos 0 }))
-    ∙ ap (λ o. not (eqb i c) && lock_conflicts (cell_of before e).marked kind o) (cond-false (ltb i i && those i) None (lock_in (client_of before i).slots e) (and_left (ltb i i) (those i) (le-ltb i i (omega arith))))
-
--- A number that is no client stands in nobody's way.
-pub blocks_none : (n : Inner) → Sound n → (c : ℕ) (kind : LockKind) (e d : ℕ) → 16 ≤ d → blocks n c kind e d ≡ false
-blocks_none n sound c kind e d l =
-    ap (λ r. not (eqb d c) && lock_conflicts (cell_of n e).marked kind (lock_in r.slots e)) (sym (past_clients n sound d l))
-    ∙ and_right (not (eqb d c)) false refl
-
--- There is a free slot where a lock that is not held finds room.
-pub room_free : (n : Inner) → Sound n → (c e : ℕ) → c < 16 → lock_in (client_of n c).slots e ≡ None →
-    (is_some (lock_in (client_of n c).slots e) || ltb (count_below 256 (λ q. is_some (lock_in (client_of n c).slots q))) 32) ≡ true →
-    first_place free (client_of n c).slots < 32
-room_free n sound c e l none room =
-    ltb-true (first_place free (client_of n c).slots) 32
-    (room_left n sound c l (first_place free (client_of n c).slots) refl
-    ∙ ap (λ o. is_some o || ltb (count_below 256 (λ q. is_some (lock_in (client_of n c).slots q))) 32) (sym none) ∙ room)
-
--- One turn of throwing out: the client stood in the way and has left, or it did not.
-module _ (before now : Inner) (c : ℕ) (kind : LockKind) (e i : ℕ)
-    (inv : (m : Meaning) → model m now ≡ leave (λ d. ltb d i && blocks before c kind e d) ThrownOut (model m before)) where
-  stood : (b : Bool) → blocks now c kind e i ≡ b → blocks before c kind e i ≡ b
-  stood b h = sym (blocks_kept now before (λ d. blocks before c kind e d) ThrownOut c kind e i inv) ∙ h
-
-  pub thrown_more : (new : Inner) → i < 16 → blocks now c kind e i ≡ true → ((m : Meaning) → model m new ≡ leave (λ d. eqb d i) ThrownOut (model m now)) →
-      (m : Meaning) → model m new ≡ leave (λ d. ltb d (i + 1) && blocks before c kind e d) ThrownOut (model m before)
-  thrown_more new l t gone m =
-      gone m ∙ ap (leave (λ d. eqb d i) ThrownOut) (inv m) ∙ leave_more (λ d. blocks before c kind e d) ThrownOut (model m before) i l (stood true t)
-
-  pub thrown_past : (new : Inner) → blocks now c kind e i ≡ false → new ≡ now →
-      (m : Meaning) → model m new ≡ leave (λ d. ltb d (i + 1) && blocks before c kind e d) ThrownOut (model m before)
-  thrown_past new t same m = ap (model m) same ∙ inv m ∙ leave_past (λ d. blocks before c kind e d) ThrownOut (model m before) i (stood false t)
+-- Where a lock that is not held finds room, there is a free place.
+pub place_free : {X : Type 0} (n : Inner) → Sound n → (r : Request) (x y : X) → r.client.0 < 16 → lock_in (client_of n r.client.0).slots r.element.0 ≡ None → finds_room n r ≡ true →
+    position is_none (client_of n r.client.0).slots ≡ None → x ≡ y
+place_free n sound r x y l none room full =
+    let left : ltb (lock_total n r.client.0) 32 ≡ true = ap (λ o. is_some o || ltb (lock_total n r.client.0) 32) (sym none) ∙ room in
+    absurd (cc (ap is_some full, room_left n sound r.client.0 l, left))

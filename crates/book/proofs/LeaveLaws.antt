@@ -1,5 +1,5 @@
 -- Clients that leave one after another leave together.
-use Rattle.std.proofs.Common.{◌≡◌, ℕ, ◌+◌, ◌<◌, ◌≤◌, Bool, true, false, cond, ◌&&◌, ◌||◌, eqb, ltb, None, sym, refl, ap, ◌∙◌, add-one, arith}
+use Rattle.std.proofs.Common.{◌≡◌, ℕ, ◌+◌, ◌<◌, ◌≤◌, Bool, true, false, cond, ◌&&◌, ◌||◌, eqb, ltb, None, sym, refl, ap, ◌∙◌, arith}
 use mathlib.Core.Path.{fun_ext}
 use Rattle.std.proofs.lemmas.Bool.{cond-false, eqb-true, le-ltb, ltb-false, and_left}
 use Rattle.std.proofs.lemmas.Bool.Decides.{nat_tests}
@@ -8,14 +8,6 @@ use Rattle.rules.specs.State.{State, for_writing}
 use Rattle.rules.specs.Locking.{leave}
 use Rattle.rules.specs.declared.ClientState.{ClientState}
 use Rattle.inner.proofs.ScanLaws.{some_alike, some_only, some_either, none_below}
-
-pub some_more : (n : ℕ) (p : ℕ → Bool) → some_below (n + 1) p ≡ (some_below n p || p n)
-unfolding some_below
-some_more n p = rw add-one refl
-
-pub some_start : (p : ℕ → Bool) → some_below 0 p ≡ false
-unfolding some_below
-some_start p = refl
 
 -- One more of them, or not.
 more_below : (i d : ℕ) → ltb d (i + 1) ≡ (eqb d i || ltb d i)
@@ -112,7 +104,3 @@ module _ (those : ℕ → Bool) (after : ClientState) (s : State) where
       go : (d : ℕ) (b : Bool) → ltb d n ≡ b → (b && those d) ≡ those d
       go d true e = refl
       go d false e = sym (h d (ltb-false d n e))
-
--- A fold over the clients, one turn on.
-pub fold_more : (n : ℕ) (p : ℕ → Bool) (found x : Bool) → found ≡ some_below n p → x ≡ p n → (found || x) ≡ some_below (n + 1) p
-fold_more n p found x h e = ap (λ b. b || x) h ∙ ap (λ b. some_below n p || b) e ∙ sym (some_more n p)

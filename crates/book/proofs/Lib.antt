@@ -1,5 +1,7 @@
 pub mod SoundLaws
 pub mod ModelLaws
 pub mod ReadLaws
-pub mod ChangeLaws
 pub mod LeaveLaws
+pub mod ChangeLaws
+pub mod ScanLaws
+pub mod ThrowLaws

@@ -1,24 +1,24 @@
 -- Setting an entry of a list is setting a place of the function that the model reads from it.
 use Rattle.std.proofs.Common.{◌≡◌, ℕ, zero, suc, ◌<◌, ◌≤◌, Bool, true, false, cond, not, ◌&&◌, ◌||◌, eqb, ltb, ◌⊎◌, List, length, get_or, set, replicate, ℤ, is_some, Some, None, Option, sym, refl, ap, ◌∙◌, inl, inr, arith}
 use mathlib.Core.Path.{fun_ext}
-use Rattle.std.proofs.lemmas.Bool.{eqb-true, eqb-false, cases_lt, cases_eq}
+use Rattle.std.proofs.lemmas.Bool.{eqb-true, eqb-false, eq-eqb, cases_lt, cases_eq}
 use Rattle.std.proofs.lemmas.List.{get_or-set_same, get_or-set_other, set_past, get_or-replicate}
 use Rattle.plant.specs.Meaning.{Meaning, number, put_meaning}
 use Rattle.plant.specs.declared.tables.Element.{Element}
 use Rattle.rules.specs.Scans.{at, some_below}
 use Rattle.rules.specs.State.{opening, is_write, for_writing, holds, locked}
 use Rattle.rules.specs.Locking.{leave, gain, granted_lock, mark_after}
-use Rattle.rules.specs.Calls.{with_client, hard_written}
+use Rattle.rules.specs.Calls.{hard_written}
 use Rattle.rules.specs.declared.ClientState.{ClientState}
 use Rattle.rules.specs.declared.ClientState.TheVariants.{Idle}
 use Rattle.rules.specs.declared.Lock.{Lock}
 use Rattle.rules.specs.declared.LockKind.{LockKind}
-use Rattle.inner.specs.declared.slots.Slot.{Slot}
+use Rattle.inner.specs.declared.slots.Held.{Held}
 use Rattle.inner.specs.declared.cells.Cell.{Cell}
 use Rattle.inner.specs.declared.whole.Inner.{Inner}
-use Rattle.inner.specs.Slots.{vacant, on, first_place, lock_in, locks_on}
+use Rattle.inner.specs.Slots.{on, lock_in, locks_on}
 use Rattle.inner.specs.Cells.{blank, written_hard}
-use Rattle.inner.specs.Whole.{nobody, client_of, cell_of, tie_of, no_locks, fresh, with_cell, entered_state, with_slot, left}
+use Rattle.inner.specs.Whole.{nobody, client_of, cell_of, tie_of, no_locks, fresh, with_cell, with_slot, left}
 use Rattle.book.specs.Sound.{Sound}
 use Rattle.book.specs.Model.{model}
 use Rattle.inner.proofs.ScanLaws.{some_alike, some_only}
@@ -52,40 +52,31 @@ at_same f k y e = fun_ext (λ q. go q (eqb q k) refl)
     go q true t = e ∙ ap f (sym (eqb-true q k t))
     go q false t = refl
 
--- One slot that is set on an element.
-pub slot_at : (slots : List Slot) (i : ℕ) (new : Slot) (e : ℕ) → i < length slots → i ≤ first_place (λ s. on s e) slots → on new e ≡ true →
-    ((q : ℕ) → (q ≡ e → ⊥) → on (get_or slots i vacant) q ≡ false) → lock_in (set slots i new) ≡ at (lock_in slots) e (Some new.lock)
-slot_at slots i new e l before t old = fun_ext (λ q. go q (eqb q e) refl)
+-- A lock that comes into a slot, with none on its element before that place.
+pub slot_at : (slots : List (Option Held)) (i : ℕ) (new : Held) → i < length slots → ((k : ℕ) → k < i → on (get_or slots k None) new.element.0 ≡ false) →
+    ((q : ℕ) → (q ≡ new.element.0 → ⊥) → on (get_or slots i None) q ≡ false) → lock_in (set slots i (Some new)) ≡ at (lock_in slots) new.element.0 (Some new.lock)
+slot_at slots i new l before old = fun_ext (λ q. go q (eqb q new.element.0) refl)
   where
-    go : (q : ℕ) (b : Bool) → eqb q e ≡ b → lock_in (set slots i new) q ≡ cond b (Some new.lock) (lock_in slots q)
-    go q true h = ap (lock_in (set slots i new)) (eqb-true q e h) ∙ lock_set slots i new e l before t
-    go q false h = let ne = eqb-false q e h in lock_kept slots i new q (old q ne) (on_one new e q t ne)
+    go : (q : ℕ) (b : Bool) → eqb q new.element.0 ≡ b → lock_in (set slots i (Some new)) q ≡ cond b (Some new.lock) (lock_in slots q)
+    go q true h = ap (lock_in (set slots i (Some new))) (eqb-true q new.element.0 h) ∙ lock_set slots i new l before
+    go q false h = let ne = eqb-false q new.element.0 h in lock_kept slots i (Some new) q (old q ne) (on_one (Some new) new.element.0 q (eq-eqb new.element.0 new.element.0 refl) ne)
 
 pub no_lock_in : (e : ℕ) → lock_in no_locks e ≡ None
 unfolding no_locks
 no_lock_in e = refl
 
 module _ (m : Meaning) (n : Inner) where
-  pub model_enter : (c : ℕ) (after : ClientState) → c < length n.clients → model m (entered_state n c after) ≡ with_client (model m n) c after
-  model_enter c after l = λ i. record {
-    table = m;
-    clients = at_set (λ r. r.state) n.clients c (record { state = after; slots = (client_of n c).slots }) nobody l i;
-    locks = same_set (λ r. lock_in r.slots) n.clients c (record { state = after; slots = (client_of n c).slots }) nobody refl i;
-    marked = λ e. (cell_of n e).marked;
-    second = λ e. (cell_of n e).second;
-    ties = λ p. tie_of n p;
-  }
+  -- A lock comes into a slot of a client, with none on its element before that place.
+  module _ (c i : ℕ) (new : Held) where
+    pub slot_locks : c < length n.clients → i < length (client_of n c).slots → ((k : ℕ) → k < i → on (get_or (client_of n c).slots k None) new.element.0 ≡ false) →
+        ((q : ℕ) → (q ≡ new.element.0 → ⊥) → on (get_or (client_of n c).slots i None) q ≡ false) →
+        (λ d. lock_in (client_of (with_slot n c i new) d).slots) ≡ at (λ d. lock_in (client_of n d).slots) c (at (lock_in (client_of n c).slots) new.element.0 (Some new.lock))
+    slot_locks l li before old =
+        at_set (λ r. lock_in r.slots) n.clients c (record { state = (client_of n c).state; slots = set (client_of n c).slots i (Some new) }) nobody l
+        ∙ ap (at (λ d. lock_in (client_of n d).slots) c) (slot_at (client_of n c).slots i new li before old)
 
-  -- The locks after one slot was set on an element.
-  pub slot_locks : (c i : ℕ) (new : Slot) (e : ℕ) → c < length n.clients → i < length (client_of n c).slots → i ≤ first_place (λ s. on s e) (client_of n c).slots →
-      on new e ≡ true → ((q : ℕ) → (q ≡ e → ⊥) → on (get_or (client_of n c).slots i vacant) q ≡ false) →
-      (λ d. lock_in (client_of (with_slot n c i new) d).slots) ≡ at (λ d. lock_in (client_of n d).slots) c (at (lock_in (client_of n c).slots) e (Some new.lock))
-  slot_locks c i new e l li before t old =
-      at_set (λ r. lock_in r.slots) n.clients c (record { state = (client_of n c).state; slots = set (client_of n c).slots i new }) nobody l
-      ∙ ap (at (λ d. lock_in (client_of n d).slots) c) (slot_at (client_of n c).slots i new e li before t old)
-
-  pub slot_clients : (c i : ℕ) (new : Slot) → ◌≡◌ {A = ℕ → ClientState} (λ d. (client_of (with_slot n c i new) d).state) (λ d. (client_of n d).state)
-  slot_clients c i new = same_set (λ r. r.state) n.clients c (record { state = (client_of n c).state; slots = set (client_of n c).slots i new }) nobody refl
+    pub slot_clients : ◌≡◌ {A = ℕ → ClientState} (λ d. (client_of (with_slot n c i new) d).state) (λ d. (client_of n d).state)
+    slot_clients = same_set (λ r. r.state) n.clients c (record { state = (client_of n c).state; slots = set (client_of n c).slots i (Some new) }) nobody refl
 
   module _ (sound : Sound n) where
     pub model_hard : (e : ℕ) (v : ℤ) → e < length n.cells →
@@ -129,13 +120,13 @@ module _ (m : Meaning) (n : Inner) where
             ∙ ap (λ b. cond b None (cell_of n e).second) (sym (some_only 16 (λ d. for_writing (lock_in (client_of n d).slots e)) c l))
 
     -- A slot and a cell are set as a grant sets them.
-    pub model_grant : (c i : ℕ) (new : Slot) (kind : LockKind) (e : ℕ) (x : Cell) → c < 16 → e < 256 → i < length (client_of n c).slots →
-        i ≤ first_place (λ s. on s e) (client_of n c).slots → on new e ≡ true → ((q : ℕ) → (q ≡ e → ⊥) → on (get_or (client_of n c).slots i vacant) q ≡ false) →
-        new.lock ≡ granted_lock (model m n) kind e (lock_in (client_of n c).slots e) →
-        x.marked ≡ mark_after (model m n) c e (lock_in (client_of n c).slots e) →
-        x.second ≡ cond (is_write kind) (Some (number m e)) (cell_of n e).second →
-        model m (with_cell (with_slot n c i new) e x) ≡ gain c kind e (model m n)
-    model_grant c i new kind e x l le li before t old granted mark sec = λ j. record {
+    pub model_grant : (c i : ℕ) (new : Held) (kind : LockKind) (x : Cell) → c < 16 → new.element.0 < 256 → i < length (client_of n c).slots →
+        ((k : ℕ) → k < i → on (get_or (client_of n c).slots k None) new.element.0 ≡ false) → ((q : ℕ) → (q ≡ new.element.0 → ⊥) → on (get_or (client_of n c).slots i None) q ≡ false) →
+        new.lock ≡ granted_lock (model m n) kind new.element.0 (lock_in (client_of n c).slots new.element.0) →
+        x.marked ≡ mark_after (model m n) c new.element.0 (lock_in (client_of n c).slots new.element.0) →
+        x.second ≡ cond (is_write kind) (Some (number m new.element.0)) (cell_of n new.element.0).second →
+        model m (with_cell (with_slot n c i new) new.element.0 x) ≡ gain c kind new.element.0 (model m n)
+    model_grant c i new kind x l le li before old granted mark sec = λ j. record {
       table = m;
       clients = slot_clients c i new j;
       locks = locks j;
@@ -145,19 +136,19 @@ module _ (m : Meaning) (n : Inner) where
     }
       where
         locks : (λ d. lock_in (client_of (with_slot n c i new) d).slots) ≡
-            at (λ d. lock_in (client_of n d).slots) c (at (lock_in (client_of n c).slots) e (Some (granted_lock (model m n) kind e (lock_in (client_of n c).slots e))))
-        locks = slot_locks c i new e (omega (arith, sound.0.0)) li before t old
-            ∙ ap (λ o. at (λ d. lock_in (client_of n d).slots) c (at (lock_in (client_of n c).slots) e (Some o))) granted
+            at (λ d. lock_in (client_of n d).slots) c (at (lock_in (client_of n c).slots) new.element.0 (Some (granted_lock (model m n) kind new.element.0 (lock_in (client_of n c).slots new.element.0))))
+        locks = slot_locks c i new (omega (arith, sound.0.0)) li before old
+            ∙ ap (λ o. at (λ d. lock_in (client_of n d).slots) c (at (lock_in (client_of n c).slots) new.element.0 (Some o))) granted
 
-        marks : (λ q. (get_or (set n.cells e x) q blank).marked) ≡ at (λ q. (cell_of n q).marked) e (mark_after (model m n) c e (lock_in (client_of n c).slots e))
-        marks = at_set (λ y. y.marked) n.cells e x blank (omega (arith, sound.0.1)) ∙ ap (at (λ q. (cell_of n q).marked) e) mark
+        marks : (λ q. (get_or (set n.cells new.element.0 x) q blank).marked) ≡ at (λ q. (cell_of n q).marked) new.element.0 (mark_after (model m n) c new.element.0 (lock_in (client_of n c).slots new.element.0))
+        marks = at_set (λ y. y.marked) n.cells new.element.0 x blank (omega (arith, sound.0.1)) ∙ ap (at (λ q. (cell_of n q).marked) new.element.0) mark
 
-        pick : (b : Bool) → at (λ q. (cell_of n q).second) e (cond b (Some (number m e)) (cell_of n e).second) ≡ cond b (at (λ q. (cell_of n q).second) e (Some (number m e))) (λ q. (cell_of n q).second)
+        pick : (b : Bool) → at (λ q. (cell_of n q).second) new.element.0 (cond b (Some (number m new.element.0)) (cell_of n new.element.0).second) ≡ cond b (at (λ q. (cell_of n q).second) new.element.0 (Some (number m new.element.0))) (λ q. (cell_of n q).second)
         pick true = refl
-        pick false = at_same (λ q. (cell_of n q).second) e (cell_of n e).second refl
+        pick false = at_same (λ q. (cell_of n q).second) new.element.0 (cell_of n new.element.0).second refl
 
-        seconds : (λ q. (get_or (set n.cells e x) q blank).second) ≡ cond (is_write kind) (at (λ q. (cell_of n q).second) e (Some (number m e))) (λ q. (cell_of n q).second)
-        seconds = at_set (λ y. y.second) n.cells e x blank (omega (arith, sound.0.1)) ∙ ap (at (λ q. (cell_of n q).second) e) sec ∙ pick (is_write kind)
+        seconds : (λ q. (get_or (set n.cells new.element.0 x) q blank).second) ≡ cond (is_write kind) (at (λ q. (cell_of n q).second) new.element.0 (Some (number m new.element.0))) (λ q. (cell_of n q).second)
+        seconds = at_set (λ y. y.second) n.cells new.element.0 x blank (omega (arith, sound.0.1)) ∙ ap (at (λ q. (cell_of n q).second) new.element.0) sec ∙ pick (is_write kind)
 
     -- The mark that a new lock leaves: it stays only if somebody else holds the element.
     pub mark_new : (c e : ℕ) → lock_in (client_of n c).slots e ≡ None →
@@ -184,8 +175,8 @@ pub model_fresh : (m : Meaning) → model m fresh ≡ opening m
 unfolding fresh
 model_fresh m = λ i. record {
   table = m;
-  clients = (fun_ext (all_alike (λ r. r.state) (record { state = Idle; slots = replicate 32 vacant }) nobody refl 16)) i;
-  locks = (fun_ext (all_alike (λ r. lock_in r.slots) (record { state = Idle; slots = replicate 32 vacant }) nobody refl 16)) i;
+  clients = (fun_ext (all_alike (λ r. r.state) (record { state = Idle; slots = replicate 32 None }) nobody refl 16)) i;
+  locks = (fun_ext (all_alike (λ r. lock_in r.slots) (record { state = Idle; slots = replicate 32 None }) nobody refl 16)) i;
   marked = (fun_ext (all_alike (λ x. x.marked) blank blank refl 256)) i;
   second = (fun_ext (all_alike (λ x. x.second) blank blank refl 256)) i;
   ties = (fun_ext (all_alike {X = Option Element} (λ x. x) None None refl 64)) i;
@@ -196,8 +187,8 @@ unfolding fresh
 sound_fresh = (
   (refl, refl, refl),
   (
-    (λ c l. ap (λ r. length r.slots) (get_or-replicate 16 c (record { state = Idle; slots = replicate 32 vacant }) nobody l)),
-    (λ c e. omega (arith, all_alike (λ r. locks_on r.slots e) (record { state = Idle; slots = replicate 32 vacant }) nobody refl 16 c)),
+    (λ c l. ap (λ r. length r.slots) (get_or-replicate 16 c (record { state = Idle; slots = replicate 32 None }) nobody l)),
+    (λ c e. omega (arith, all_alike (λ r. locks_on r.slots e) (record { state = Idle; slots = replicate 32 None }) nobody refl 16 c)),
     (λ e. all_alike (λ x. x.holders) blank blank refl 256 e),
   ),
 )

@@ -1,14 +1,14 @@
 -- Soundness: what follows from it, and that it is kept.
-use Rattle.std.proofs.Common.{◌≡◌, ℕ, zero, suc, ◌+◌, ◌<◌, ◌≤◌, Bool, true, false, cond, ◌&&◌, ◌||◌, eqb, ltb, ◌⊎◌, List, [], ◌∷◌, length, get_or, set, is_some, None, sym, refl, ap, ◌∙◌, inl, inr, ⊎_elim, arith, length-set}
+use Rattle.std.proofs.Common.{◌≡◌, ℕ, zero, suc, ◌+◌, ◌<◌, ◌≤◌, Bool, true, false, cond, ◌||◌, eqb, ltb, ◌⊎◌, List, [], ◌∷◌, length, get_or, set, is_some, Some, None, sym, refl, ap, ◌∙◌, inl, inr, ⊎_elim, arith, length-set}
 use Rattle.std.proofs.lemmas.Bool.{eqb-true, eqb-false, lt-ltb, cases_lt, cases_eq}
 use Rattle.std.proofs.lemmas.List.{get_or-set_same, get_or-set_other, get_or_past, set_past}
 use Rattle.rules.specs.Scans.{some_below}
 use Rattle.rules.specs.declared.ClientState.{ClientState}
-use Rattle.inner.specs.declared.slots.Slot.{Slot}
+use Rattle.inner.specs.declared.slots.Held.{Held}
 use Rattle.inner.specs.declared.slots.ClientRecord.{ClientRecord}
 use Rattle.inner.specs.declared.cells.Cell.{Cell}
 use Rattle.inner.specs.declared.whole.Inner.{Inner}
-use Rattle.inner.specs.Slots.{vacant, on, lock_in, locks_on}
+use Rattle.inner.specs.Slots.{on, lock_in, locks_on}
 use Rattle.inner.specs.Cells.{blank, release_slots}
 use Rattle.inner.specs.Whole.{nobody, client_of, cell_of, no_locks, entered_state, with_slot, with_cell, left}
 use Rattle.book.specs.Sound.{all_locks, Sound}
@@ -110,56 +110,56 @@ module _ (n : Inner) (sound : Sound n) where
   sound_enter c after l =
       sound_set c (record { state = after; slots = (client_of n c).slots }) n.cells l (sound.1.0 c l) (sound.1.1 c) sound.0.1 (λ e. refl)
 
-  -- A lock takes the place of another on its element.
-  pub sound_slot : (c i : ℕ) (new : Slot) → c < 16 → i < 32 → ((q : ℕ) → on new q ≡ on (get_or (client_of n c).slots i vacant) q) → Sound (with_slot n c i new)
-  sound_slot c i new l li same =
-      sound_set c (record { state = (client_of n c).state; slots = set (client_of n c).slots i new }) n.cells l
-      (length-set (client_of n c).slots i new ∙ sound.1.0 c l) (λ e. omega (arith, kept e, sound.1.1 c e)) sound.0.1 (λ e. omega (arith, kept e))
-    where
-      kept : (e : ℕ) → locks_on (set (client_of n c).slots i new) e ≡ locks_on (client_of n c).slots e
-      kept e =
-          let a : ◌≡◌ {A = ℕ} (cond (on new e) 1 0) (cond (on (get_or (client_of n c).slots i vacant) e) 1 0) = ap (λ b. cond b 1 0) (same e) in
-          omega (arith, locks_set (client_of n c).slots i new e (omega (arith, sound.1.0 c l)))
+  module _ (c i : ℕ) (new : Held) (l : c < 16) (li : i < 32) where
+    -- A lock takes the place of another on its element.
+    pub sound_slot : ((q : ℕ) → on (Some new) q ≡ on (get_or (client_of n c).slots i None) q) → Sound (with_slot n c i new)
+    sound_slot same =
+        sound_set c (record { state = (client_of n c).state; slots = set (client_of n c).slots i (Some new) }) n.cells l
+        (length-set (client_of n c).slots i (Some new) ∙ sound.1.0 c l) (λ e. omega (arith, kept e, sound.1.1 c e)) sound.0.1 (λ e. omega (arith, kept e))
+      where
+        kept : (e : ℕ) → locks_on (set (client_of n c).slots i (Some new)) e ≡ locks_on (client_of n c).slots e
+        kept e =
+            let a : ◌≡◌ {A = ℕ} (cond (on (Some new) e) 1 0) (cond (on (get_or (client_of n c).slots i None) e) 1 0) = ap (λ b. cond b 1 0) (same e) in
+            omega (arith, locks_set (client_of n c).slots i (Some new) e (omega (arith, sound.1.0 c l)))
 
-  -- A new lock comes into a free slot, and its element's cell has one holder more.
-  pub sound_gain : (c i : ℕ) (new : Slot) (e : ℕ) (x : Cell) → c < 16 → i < 32 → e < 256 → (get_or (client_of n c).slots i vacant).used ≡ false →
-      lock_in (client_of n c).slots e ≡ None → ((q : ℕ) → on new q ≡ eqb e q) → x.holders ≡ (cell_of n e).holders + 1 →
-      Sound (with_cell (with_slot n c i new) e x)
-  sound_gain c i new e x l li le unused none one more =
-      sound_set c (record { state = (client_of n c).state; slots = set (client_of n c).slots i new }) (set n.cells e x) l
-      (length-set (client_of n c).slots i new ∙ sound.1.0 c l) once (length-set n.cells e x ∙ sound.0.1) holders
-    where
-      nobody_on : locks_on (client_of n c).slots e ≡ 0
-      nobody_on = count_from_none (client_of n c).slots e none
+    -- A new lock comes into a free slot, and its element's cell has one holder more.
+    pub sound_gain : (x : Cell) → new.element.0 < 256 → get_or (client_of n c).slots i None ≡ None → lock_in (client_of n c).slots new.element.0 ≡ None →
+        x.holders ≡ (cell_of n new.element.0).holders + 1 → Sound (with_cell (with_slot n c i new) new.element.0 x)
+    sound_gain x le unused none more =
+        sound_set c (record { state = (client_of n c).state; slots = set (client_of n c).slots i (Some new) }) (set n.cells new.element.0 x) l
+        (length-set (client_of n c).slots i (Some new) ∙ sound.1.0 c l) once (length-set n.cells new.element.0 x ∙ sound.0.1) holders
+      where
+        nobody_on : locks_on (client_of n c).slots new.element.0 ≡ 0
+        nobody_on = count_from_none (client_of n c).slots new.element.0 none
 
-      added : (q : ℕ) → locks_on (set (client_of n c).slots i new) q ≡ locks_on (client_of n c).slots q + cond (eqb e q) 1 0
-      added q =
-          let a : ◌≡◌ {A = ℕ} (cond (on (get_or (client_of n c).slots i vacant) q) 1 0) 0 = ap (λ b. cond (b && eqb (get_or (client_of n c).slots i vacant).element.0 q) 1 0) unused in
-          let b : ◌≡◌ {A = ℕ} (cond (on new q) 1 0) (cond (eqb e q) 1 0) = ap (λ b. cond b 1 0) (one q) in
-          omega (arith, locks_set (client_of n c).slots i new q (omega (arith, sound.1.0 c l)))
+        added : (q : ℕ) → locks_on (set (client_of n c).slots i (Some new)) q ≡ locks_on (client_of n c).slots q + cond (eqb new.element.0 q) 1 0
+        added q =
+            let a : ◌≡◌ {A = ℕ} (cond (on (get_or (client_of n c).slots i None) q) 1 0) 0 = ap (λ s. cond (on s q) 1 0) unused in
+            omega (arith, locks_set (client_of n c).slots i (Some new) q (omega (arith, sound.1.0 c l)))
 
-      once : (q : ℕ) → locks_on (set (client_of n c).slots i new) q ≤ 1
-      once q = go (eqb e q) refl (added q)
-        where
-          go : (b : Bool) → eqb e q ≡ b → locks_on (set (client_of n c).slots i new) q ≡ locks_on (client_of n c).slots q + cond b 1 0 → locks_on (set (client_of n c).slots i new) q ≤ 1
-          go true t h = omega (arith, ap (locks_on (client_of n c).slots) (eqb-true e q t), nobody_on)
-          go false t h = omega (arith, sound.1.1 c q)
+        once : (q : ℕ) → locks_on (set (client_of n c).slots i (Some new)) q ≤ 1
+        once q = go (eqb new.element.0 q) refl (added q)
+          where
+            go : (b : Bool) → eqb new.element.0 q ≡ b → locks_on (set (client_of n c).slots i (Some new)) q ≡ locks_on (client_of n c).slots q + cond b 1 0 →
+                locks_on (set (client_of n c).slots i (Some new)) q ≤ 1
+            go true t h = omega (arith, ap (locks_on (client_of n c).slots) (eqb-true new.element.0 q t), nobody_on)
+            go false t h = omega (arith, sound.1.1 c q)
 
-      holders : (q : ℕ) → (get_or (set n.cells e x) q blank).holders + locks_on (client_of n c).slots q ≡ (cell_of n q).holders + locks_on (set (client_of n c).slots i new) q
-      holders q = go (eqb e q) refl (added q)
-        where
-          go : (b : Bool) → eqb e q ≡ b → locks_on (set (client_of n c).slots i new) q ≡ locks_on (client_of n c).slots q + cond b 1 0 →
-              (get_or (set n.cells e x) q blank).holders + locks_on (client_of n c).slots q ≡ (cell_of n q).holders + locks_on (set (client_of n c).slots i new) q
-          go true t h =
-              let p = eqb-true e q t in
-              let a : (get_or (set n.cells e x) q blank).holders ≡ x.holders = ap (λ k. (get_or (set n.cells e x) k blank).holders) (sym p) ∙ ap (λ y. y.holders) (get_or-set_same n.cells e x blank (omega (arith, sound.0.1))) in
-              let b : (cell_of n e).holders ≡ (cell_of n q).holders = ap (λ k. (cell_of n k).holders) p in
-              omega (arith, more)
-          go false t h =
-              let a : (get_or (set n.cells e x) q blank).holders ≡ (cell_of n q).holders = ap (λ y. y.holders) (get_or-set_other n.cells e q x blank (λ p. eqb-false e q t (sym p))) in
-              omega arith
+        holders : (q : ℕ) → (get_or (set n.cells new.element.0 x) q blank).holders + locks_on (client_of n c).slots q ≡ (cell_of n q).holders + locks_on (set (client_of n c).slots i (Some new)) q
+        holders q = go (eqb new.element.0 q) refl (added q)
+          where
+            go : (b : Bool) → eqb new.element.0 q ≡ b → locks_on (set (client_of n c).slots i (Some new)) q ≡ locks_on (client_of n c).slots q + cond b 1 0 →
+                (get_or (set n.cells new.element.0 x) q blank).holders + locks_on (client_of n c).slots q ≡ (cell_of n q).holders + locks_on (set (client_of n c).slots i (Some new)) q
+            go true t h =
+                let p = eqb-true new.element.0 q t in
+                let a : (get_or (set n.cells new.element.0 x) q blank).holders ≡ x.holders = ap (λ k. (get_or (set n.cells new.element.0 x) k blank).holders) (sym p) ∙ ap (λ y. y.holders) (get_or-set_same n.cells new.element.0 x blank (omega (arith, sound.0.1))) in
+                let b : (cell_of n new.element.0).holders ≡ (cell_of n q).holders = ap (λ k. (cell_of n k).holders) p in
+                omega (arith, more)
+            go false t h =
+                let a : (get_or (set n.cells new.element.0 x) q blank).holders ≡ (cell_of n q).holders = ap (λ y. y.holders) (get_or-set_other n.cells new.element.0 q x blank (λ p. eqb-false new.element.0 q t (sym p))) in
+                omega arith
 
 -- A reader gains the write lock: the cell keeps its holders.
-pub sound_raise : (n : Inner) → Sound n → (c i : ℕ) (new : Slot) (e : ℕ) (x : Cell) → c < 16 → i < 32 → ((q : ℕ) → on new q ≡ on (get_or (client_of n c).slots i vacant) q) →
-    x.holders ≡ (cell_of n e).holders → Sound (with_cell (with_slot n c i new) e x)
-sound_raise n sound c i new e x l li same more = sound_cell (with_slot n c i new) (sound_slot n sound c i new l li same) e x more
+pub sound_raise : (n : Inner) → Sound n → (c i : ℕ) (new : Held) (x : Cell) → c < 16 → i < 32 → ((q : ℕ) → on (Some new) q ≡ on (get_or (client_of n c).slots i None) q) →
+    x.holders ≡ (cell_of n new.element.0).holders → Sound (with_cell (with_slot n c i new) new.element.0 x)
+sound_raise n sound c i new x l li same more = sound_cell (with_slot n c i new) (sound_slot n sound c i new l li same) new.element.0 x more

@@ -1,3 +1,3 @@
 pub mod Sound
 pub mod Model
-pub mod Blocking
+pub mod Requests

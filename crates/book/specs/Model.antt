@@ -1,4 +1,5 @@
 -- What the inner struct means: with the meaning of a table, a state of the rules.
+use Rattle.std.specs.Prelude.{◌≡◌}
 use Rattle.plant.specs.Meaning.{Meaning}
 use Rattle.rules.specs.State.{State}
 use Rattle.inner.specs.declared.whole.Inner.{Inner}
@@ -16,3 +17,7 @@ model m n =
       second = λ e. (cell_of n e).second;
       ties = λ p. tie_of n p;
     }
+
+-- Whatever the table means: what the inner struct meant has become this of it.
+abbrev pub Becomes : Inner → Inner → (State → State) → Type 0
+Becomes old new change = (m : Meaning) → model m new ≡ change (model m old)

@@ -1,15 +1,18 @@
 // The book: the inner struct, known to be sound. What is read of it.
-ghost use Rattle.std.specs.Prelude.{◌≡◌, ◌<◌, is_some, if◌then◌else◌, Err, nat_lt};
-ghost use Rattle.std.specs.Option.{option_map};
+ghost use Rattle.std.specs.Prelude.{◌≡◌, is_some, if◌then◌else◌, IfOk, Err, nat_lt, unwrap_or, position, is_none};
+ghost use Rattle.std.specs.Option.{option_map, option_copied};
 ghost use Rattle.plant.specs.declared.refusals.Refusal.TheVariants.{ClientOutOfRange};
-ghost use Rattle.rules.specs.Scans.{count_below, first_below};
+ghost use Rattle.rules.specs.Scans.{first_below};
 ghost use Rattle.rules.specs.States.{met};
 ghost use Rattle.rules.specs.Calls.{is_left};
-ghost use Rattle.inner.specs.Slots.{on, free, first_place, lock_in};
-ghost use Rattle.inner.specs.Whole.{client_of, cell_of, tie_of};
+ghost use Rattle.inner.specs.Slots.{on, lock_in};
+ghost use Rattle.inner.specs.Cells.{blank};
+ghost use Rattle.inner.specs.Whole.{nobody, client_of, cell_of, tie_of};
 ghost use Rattle.book.specs.Sound.{Sized, Counted};
+ghost use Rattle.book.specs.Requests.{state_after, lock_total};
 
-use inner::{Inner, free_place, lowest_left, place_on};
+use super::requests::Turn;
+use inner::{Cell, ClientRecord, Inner};
 use plant::{Element, Refusal};
 use ranks::Client;
 use rules::{ClientState, Lock, Move, Pointer};
@@ -23,116 +26,93 @@ pub struct Book {
 }
 
 impl Book {
-    // The place of a client's first slot on an element, or 32.
-    pub fn place_of(&self, client: Client, element: Element) -> usize
-        requires { client.0 < 16 }
-        ensures { result ≡ first_place (λ s. on s element.0) (client_of self.now.inner client.0).slots }
+    // A client's record, if there is such a client.
+    fn record(&self, client: Client) -> Option<&ClientRecord>
+        ensures value { unwrap_or (option_copied result) nobody ≡ client_of self.now.inner client.0 }
+        ensures there { is_some result ≡ nat_lt client.0 16 }
     {
-        place_on(&self.inner.clients[client.0 as usize].slots, element)
+        self.inner.clients.get(usize::from(client.0))
     }
 
-    // The place of a client's first free slot, or 32.
-    pub fn free_place_of(&self, client: Client) -> usize
-        requires { client.0 < 16 }
-        ensures { result ≡ first_place free (client_of self.now.inner client.0).slots }
+    // An element's cell, if it has one.
+    fn cell(&self, element: Element) -> Option<&Cell>
+        ensures value { unwrap_or (option_copied result) blank ≡ cell_of self.now.inner element.0 }
     {
-        free_place(&self.inner.clients[client.0 as usize].slots)
+        self.inner.cells.get(usize::from(element.0))
+    }
+
+    // The place of a client's first slot on an element.
+    pub(crate) fn place_of(&self, client: Client, element: Element) -> Option<usize>
+        ensures { result ≡ position (λ s. on s element.0) (client_of self.now.inner client.0).slots }
+    {
+        self.record(client)?.place_on(element)
+    }
+
+    // The place of a client's first free slot.
+    pub(crate) fn free_place_of(&self, client: Client) -> Option<usize>
+        ensures { result ≡ position is_none (client_of self.now.inner client.0).slots }
+    {
+        self.record(client)?.free_place()
     }
 
     // How a client's state meets a call: the next state, or the refusal.
-    pub fn meets(&self, client: Client, call: Move) -> Result<ClientState, Refusal>
-        ensures { result ≡ (if nat_lt client.0 16 then met (client_of self.now.inner client.0).state call else Err ClientOutOfRange) }
+    pub fn meets(&self, client: Client, call: Move) -> Result<Turn, Refusal>
+        ensures state { state_after result ≡ (if nat_lt client.0 16 then met (client_of self.now.inner client.0).state call else Err ClientOutOfRange) }
+        ensures same { IfOk result (λ t. t.client ≡ client) }
     {
-        let c = client.0 as usize;
-        if c >= 16 {
-            return Err(Refusal::ClientOutOfRange);
-        }
-        self.inner.clients[c].meets(call)
+        let record = self.record(client).ok_or(Refusal::ClientOutOfRange)?;
+        let after = record.meets(call)?;
+        Ok(Turn { client, after })
     }
 
     // A client's state; a number that is no client is idle.
     pub fn state_of(&self, client: Client) -> ClientState
         ensures { result ≡ (client_of self.now.inner client.0).state }
     {
-        let c = client.0 as usize;
-        if c >= 16 {
-            return ClientState::Idle;
-        }
-        self.inner.clients[c].state
+        self.record(client)
+            .map_or(ClientState::Idle, |record| record.state)
     }
 
     // A client's lock on an element, if it has one.
     pub fn lock_of(&self, client: Client, element: Element) -> Option<Lock>
         ensures { result ≡ lock_in (client_of self.now.inner client.0).slots element.0 }
     {
-        let c = client.0 as usize;
-        if c >= 16 {
-            return None;
-        }
-        let place = self.place_of(client, element);
-        if place >= 32 {
-            return None;
-        }
-        Some(self.inner.clients[c].slots[place].lock)
+        self.record(client)?.lock_on(element)
     }
 
     // Whether a client has fewer than 32 locks.
-    pub fn has_room(&self, client: Client) -> bool
-        ensures { result ≡ nat_lt (count_below 256 (λ e. is_some (lock_in (client_of self.now.inner client.0).slots e))) 32 }
+    pub(crate) fn has_room(&self, client: Client) -> bool
+        ensures { result ≡ nat_lt (lock_total self.now.inner client.0) 32 }
     {
-        let c = client.0 as usize;
-        if c >= 16 {
-            return true;
-        }
-        self.free_place_of(client) < 32
+        self.record(client)
+            .is_none_or(|record| record.free_place().is_some())
     }
 
     // A client's lowest-numbered element that is left for write back.
     pub fn next_left(&self, client: Client) -> Option<Element>
         ensures { option_map (λ e. e.0) result ≡ first_below 256 (λ e. is_left (lock_in (client_of self.now.inner client.0).slots e)) }
     {
-        let c = client.0 as usize;
-        if c >= 16 {
-            return None;
-        }
-        let lowest = lowest_left(&self.inner.clients[c].slots);
-        if lowest >= 256 {
-            None
-        } else {
-            Some(Element(lowest))
-        }
+        self.record(client)?.lowest_left()
     }
 
     // Whether an element is marked.
     pub fn is_marked(&self, element: Element) -> bool
         ensures { result ≡ (cell_of self.now.inner element.0).marked }
     {
-        let e = element.0 as usize;
-        if e >= 256 {
-            return false;
-        }
-        self.inner.cells[e].marked
+        self.cell(element).is_some_and(|cell| cell.marked)
     }
 
     // An element's second version, if it has one.
     pub fn second_of(&self, element: Element) -> Option<i64>
         ensures { result ≡ (cell_of self.now.inner element.0).second }
     {
-        let e = element.0 as usize;
-        if e >= 256 {
-            return None;
-        }
-        self.inner.cells[e].second
+        self.cell(element)?.second
     }
 
     // The element that a pointer is tied to.
     pub fn tie_of(&self, pointer: Pointer) -> Option<Element>
         ensures { result ≡ tie_of self.now.inner pointer.0 }
     {
-        let p = pointer.0 as usize;
-        if p >= 64 {
-            return None;
-        }
-        self.inner.ties[p]
+        *self.inner.ties.get(usize::from(pointer.0))?
     }
 }

@@ -4,6 +4,7 @@
 mod changes;
 mod keeping;
 mod locking;
+mod requests;
 
 pub use keeping::Book;
-pub use locking::is_covered;
+pub use requests::{Admitted, Request, Turn};

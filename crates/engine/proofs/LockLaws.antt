@@ -5,7 +5,7 @@ use Rattle.plant.specs.Meaning.{Meaning, has, number, get_answer}
 use Rattle.plant.specs.declared.refusals.Refusal.{Refusal}
 use Rattle.plant.specs.declared.refusals.Refusal.TheVariants.{TooManyLocks, NoSuchElement}
 use Rattle.ranks.specs.Standing.{stands_above}
-use Rattle.rules.specs.Scans.{some_below, count_below}
+use Rattle.rules.specs.Scans.{some_below}
 use Rattle.rules.specs.State.{State, is_committing}
 use Rattle.rules.specs.Locking.{conflicts, covers, lock_count, lock_conflicts, leave, gain}
 use Rattle.rules.specs.Calls.{Outcome, answered, refused, lock_steps}
@@ -16,8 +16,9 @@ use Rattle.inner.specs.declared.whole.Inner.{Inner}
 use Rattle.inner.specs.Slots.{lock_in}
 use Rattle.inner.specs.Whole.{client_of, cell_of}
 use Rattle.inner.proofs.ScanLaws.{count_alike}
-use Rattle.book.specs.Model.{model}
-use Rattle.book.specs.Blocking.{blocks}
+use Rattle.book.specs.Model.{Becomes}
+use Rattle.book.specs.Requests.{blocks, lock_total, finds_room}
+use Rattle.book.specs.declared.requests.Request.{Request}
 
 -- What get has found is the element's number.
 pub got_number : (m : Meaning) (e : ℕ) (v : ℤ) → has m e ≡ true → Ok v ≡ get_answer m e → number m e ≡ v
@@ -28,26 +29,18 @@ got_number m e v h is = go (has m e) h is
     go false t q = cc
 
 -- Nobody stands in their own way, so a client keeps its own locks when others are thrown out.
-module _ (n after : Inner) (c : ℕ) (kind : LockKind) (e : ℕ)
-    (gone : (m : Meaning) → model m after ≡ leave (λ d. blocks n c kind e d) ThrownOut (model m n)) where
-  own_kept : (q : ℕ) → lock_in (client_of after c).slots q ≡ lock_in (client_of n c).slots q
+module _ (n after : Inner) (r : Request) (gone : Becomes n after (leave (λ d. blocks n r d) ThrownOut)) where
+  own_kept : (q : ℕ) → lock_in (client_of after r.client.0).slots q ≡ lock_in (client_of n r.client.0).slots q
   own_kept q =
-      ap (λ s. s.locks c q) (gone (record { numbers = []; lowest = pos 0; highest = pos 0 }))
-      ∙ cond-false (blocks n c kind e c) None (lock_in (client_of n c).slots q)
-      (and_left (not (eqb c c)) (lock_conflicts (cell_of n e).marked kind (lock_in (client_of n c).slots e)) (ap not (eq-eqb c c refl)))
+      ap (λ s. s.locks r.client.0 q) (gone (record { numbers = []; lowest = pos 0; highest = pos 0 }))
+      ∙ cond-false (blocks n r r.client.0) None (lock_in (client_of n r.client.0).slots q)
+      (and_left (not (eqb r.client.0 r.client.0)) (lock_conflicts (cell_of n r.element.0).marked r.kind (lock_in (client_of n r.client.0).slots r.element.0)) (ap not (eq-eqb r.client.0 r.client.0 refl)))
 
-  pub room_kept : (is_some (lock_in (client_of n c).slots e) || ltb (count_below 256 (λ q. is_some (lock_in (client_of n c).slots q))) 32) ≡ true →
-      (is_some (lock_in (client_of after c).slots e) || ltb (count_below 256 (λ q. is_some (lock_in (client_of after c).slots q))) 32) ≡ true
+  pub room_kept : finds_room n r ≡ true → finds_room after r ≡ true
   room_kept h =
-      ap (λ o. is_some o || ltb (count_below 256 (λ q. is_some (lock_in (client_of after c).slots q))) 32) (own_kept e)
-      ∙ ap (λ k. is_some (lock_in (client_of n c).slots e) || ltb k 32) (count_alike 256 (λ q. is_some (lock_in (client_of after c).slots q)) (λ q. is_some (lock_in (client_of n c).slots q)) (λ q l. ap is_some (own_kept q)))
+      ap (λ o. is_some o || ltb (lock_total after r.client.0) 32) (own_kept r.element.0)
+      ∙ ap (λ k. is_some (lock_in (client_of n r.client.0).slots r.element.0) || ltb k 32) (count_alike 256 (λ q. is_some (lock_in (client_of after r.client.0).slots q)) (λ q. is_some (lock_in (client_of n r.client.0).slots q)) (λ q l. ap is_some (own_kept q)))
       ∙ h
-
--- A lock that is held, or for which there is room.
-pub room_from : (held none room : Bool) → held ≡ not none → (none && not room) ≡ false → (held || room) ≡ true
-room_from held true true e h = ap (λ b. b || true) e
-room_from held true false e h = let z : ◌≡◌ {A = ℕ} 0 1 = cc in cc
-room_from held false room e h = ap (λ b. b || room) e
 
 module _ {K : Type 0} (above : K → K → Bool) (ranks : List K) (s : State) (c : ℕ) (kind : LockKind) (e : ℕ)
     (open' : covers (s.locks c e) kind ≡ false) (room : (is_some (s.locks c e) || ltb (lock_count s c) 32) ≡ true) where

@@ -1,15 +1,21 @@
 -- The answers of the calls, as the rules have them, and what a call leaves.
-use Rattle.std.specs.Prelude.{ℕ, cond, ℤ, Some, None, Ok, Err, Option, Result, nat_lt}
+use Rattle.std.specs.Prelude.{ℕ, if◌then◌else◌, ℤ, Some, None, Ok, Err, Option, Result, nat_lt}
 use Rattle.plant.specs.Meaning.{Meaning}
 use Rattle.plant.specs.declared.refusals.Refusal.{Refusal}
-use Rattle.plant.specs.declared.refusals.Refusal.TheVariants.{PointerOutOfRange, PointerNotBound}
+use Rattle.plant.specs.declared.refusals.Refusal.TheVariants.{PointerOutOfRange, PointerNotBound, ClientOutOfRange, RankListTooShort}
 use Rattle.plant.specs.declared.tables.Element.{Element}
+use Rattle.rules.specs.States.{met}
 use Rattle.rules.specs.State.{State}
+use Rattle.rules.specs.Locking.{conflicts, leave, gain}
 use Rattle.rules.specs.Calls.{Outcome, answered}
+use Rattle.rules.specs.declared.ClientState.TheVariants.{ThrownOut}
 use Rattle.rules.specs.declared.Answer.{Answer}
 use Rattle.rules.specs.declared.Answer.TheVariants.{Done, Number, WroteBack, Wait as Waits, Lost as IsLost, Refused}
+use Rattle.rules.specs.declared.ClientState.{ClientState}
 use Rattle.rules.specs.declared.Fate.{Fate}
+use Rattle.rules.specs.declared.Move.{Move}
 use Rattle.book.specs.Model.{model}
+use Rattle.book.specs.declared.requests.Request.{Request}
 use Rattle.engine.specs.declared.opening.Engine.{Engine}
 use Rattle.engine.specs.declared.answers.Locking.{Locking}
 use Rattle.engine.specs.declared.answers.Locking.TheVariants.{Granted, Wait, Lost}
@@ -43,6 +49,15 @@ lock_answer (Err r) = Refused r
 abbrev pub state_of : {T : Type 0} → (T → Meaning) → Engine T → State
 state_of meaning e = model (meaning e.table) e.book.inner
 
+-- How a call that looks at the rank list is met: by the client's number, by how many entries the list has, by
+-- the client's state.
+abbrev pub met_with_ranks : State → ℕ → Move → ℕ → Result ClientState Refusal
+met_with_ranks s c move entries = if nat_lt c 16 then (if nat_lt entries 16 then Err RankListTooShort else met (s.clients c) move) else Err ClientOutOfRange
+
+-- What a granted request leaves: all that stand in its way are thrown out, and then the client gains the lock.
+abbrev pub granted : State → Request → State
+granted s r = gain r.client.0 r.kind r.element.0 (leave (λ d. conflicts s r.client.0 r.kind r.element.0 d) ThrownOut s)
+
 -- What a call left, with its answer.
 abbrev pub left_with : {T : Type 0} → (T → Meaning) → Engine T → Answer → Outcome
 left_with meaning e a = answered (state_of meaning e) a
@@ -53,4 +68,4 @@ element_tied None = Err PointerNotBound
 element_tied (Some e) = Ok e
 
 abbrev pub bound_element : State → ℕ → Result Element Refusal
-bound_element s p = cond (nat_lt p 64) (element_tied (s.ties p)) (Err PointerOutOfRange)
+bound_element s p = if nat_lt p 64 then element_tied (s.ties p) else Err PointerOutOfRange

@@ -1,15 +1,14 @@
 // Lock.
-ghost use Rattle.std.specs.Prelude.{◌≡◌, ◌<◌, true, ◌||◌, is_some, nat_lt};
+ghost use Rattle.std.specs.Prelude.{◌≡◌, true};
 ghost use Rattle.plant.specs.Meaning.{has};
-ghost use Rattle.rules.specs.Locking.{conflicts, lock_count, leave as leaving, gain};
 ghost use Rattle.rules.specs.Calls.{answered, lock_call, lock_steps};
 ghost use Rattle.rules.specs.declared.Answer.TheVariants.{Done};
-ghost use Rattle.rules.specs.declared.ClientState.TheVariants.{ThrownOut};
-ghost use Rattle.engine.specs.Answering.{lock_answer, left_with, state_of};
+ghost use Rattle.book.specs.Requests.{finds_room};
+ghost use Rattle.engine.specs.Answering.{lock_answer, left_with, state_of, granted};
 
 use super::answers::Locking;
 use super::opening::Engine;
-use book::is_covered;
+use book::{Admitted, Request, Turn};
 use plant::{Element, Refusal, Table};
 use ranks::{Client, Rank};
 use rules::{ClientState, LockKind, Move};
@@ -25,56 +24,53 @@ impl<T: Table> Engine<T> {
     ) -> Result<Locking, Refusal>
         ensures { left_with T.meaning self.new (lock_answer result) ≡ lock_call K.above ranks.now (state_of T.meaning self.old) client.0 kind element.0 }
     {
-        if client.0 >= 16 {
-            return Err(Refusal::ClientOutOfRange);
-        }
-        if ranks.len() < 16 {
-            return Err(Refusal::RankListTooShort);
-        }
-        let _after = self.book.meets(client, Move::Lock)?;
+        self.meets_ranked(client, Move::Lock, ranks.len())?;
         if !self.has(element) {
             return Err(Refusal::NoSuchElement);
         }
-        self.lock_element(ranks, client, kind, element)
+        let request = Request {
+            client,
+            kind,
+            element,
+        };
+        self.lock_element(ranks, Admitted { request })
     }
 
     // The four steps of a lock that is not refused before them.
-    fn lock_element<K: Rank>(
-        &mut self,
-        ranks: &[K],
-        client: Client,
-        kind: LockKind,
-        element: Element,
-    ) -> Result<Locking, Refusal>
-        requires { (client.0 < 16) × ((element.0 < 256) × (has (T.meaning self.old.table) element.0 ≡ true)) }
-        ensures { left_with T.meaning self.new (lock_answer result) ≡ lock_steps K.above ranks.now (state_of T.meaning self.old) client.0 kind element.0 }
+    fn lock_element<K: Rank>(&mut self, ranks: &[K], admitted: Admitted) -> Result<Locking, Refusal>
+        requires { has (T.meaning self.old.table) admitted.request.element.0 ≡ true }
+        ensures { left_with T.meaning self.new (lock_answer result) ≡ lock_steps K.above ranks.now (state_of T.meaning self.old) admitted.request.client.0 admitted.request.kind admitted.request.element.0 }
     {
-        let held = self.book.lock_of(client, element);
-        if is_covered(held, kind) {
+        let request = admitted.request;
+        if self.book.is_covered(request) {
             return Ok(Locking::Granted);
         }
-        if held.is_none() & !self.book.has_room(client) {
+        if !self.book.finds_room(request) {
             return Err(Refusal::TooManyLocks);
         }
         // A holder that stands above is looked for before anybody is thrown out.
-        if self.book.is_lost(ranks, client, kind, element) {
-            self.book.leave(client, ClientState::ThrownOut);
+        if self.book.is_lost(ranks, request) {
+            self.book.leave(Turn {
+                client: request.client,
+                after: ClientState::ThrownOut,
+            });
             return Ok(Locking::Lost);
         }
-        if self.book.must_wait(client, kind, element) {
+        if self.book.must_wait(request) {
             return Ok(Locking::Wait);
         }
-        self.win(client, kind, element)
+        self.win(admitted)
     }
 
     // All that stand in the way are thrown out, and the lock is granted.
-    fn win(&mut self, client: Client, kind: LockKind, element: Element) -> Result<Locking, Refusal>
-        requires { (client.0 < 16) × ((element.0 < 256) × ((has (T.meaning self.old.table) element.0 ≡ true) × ((is_some ((state_of T.meaning self.old).locks client.0 element.0) || nat_lt (lock_count (state_of T.meaning self.old) client.0) 32) ≡ true))) }
-        ensures { left_with T.meaning self.new (lock_answer result) ≡ answered (gain client.0 kind element.0 (leaving (λ d. conflicts (state_of T.meaning self.old) client.0 kind element.0 d) ThrownOut (state_of T.meaning self.old))) Done }
+    fn win(&mut self, admitted: Admitted) -> Result<Locking, Refusal>
+        requires known { has (T.meaning self.old.table) admitted.request.element.0 ≡ true }
+        requires room { finds_room self.old.book.inner admitted.request ≡ true }
+        ensures { left_with T.meaning self.new (lock_answer result) ≡ answered (granted (state_of T.meaning self.old) admitted.request) Done }
     {
-        let found = self.table.get(element)?;
-        self.book.throw_out(client, kind, element);
-        self.book.grant(client, kind, element, found);
+        let found = self.table.get(admitted.request.element)?;
+        self.book.throw_out(admitted.request);
+        self.book.grant(admitted, found);
         Ok(Locking::Granted)
     }
 }

@@ -50,7 +50,8 @@ impl<T: Table> Engine<T> {
 
     pub fn highest(&self) -> i64
         ensures value { result ≡ (T.meaning self.now.table).highest }
-        ensures bound { ((T.meaning self.now.table).lowest ≤ℤ result) × (result ≤ℤ pos 1_000_000_000_000) }
+        ensures order { (T.meaning self.now.table).lowest ≤ℤ result }
+        ensures bound { result ≤ℤ pos 1_000_000_000_000 }
     {
         self.table.highest()
     }
@@ -60,6 +61,6 @@ impl<T: Table> Engine<T> {
         ensures value { result ≡ has_element (T.meaning self.now.table) element.0 }
         ensures small { result ≡ true → element.0 < 256 }
     {
-        element.0 < self.table.count()
+        self.table.has(element)
     }
 }

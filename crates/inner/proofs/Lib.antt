@@ -1,5 +1,5 @@
-pub mod Places
-pub mod Release
 pub mod ScanLaws
 pub mod SlotLaws
+pub mod LeftLaws
+pub mod Giving
 pub mod CellLaws

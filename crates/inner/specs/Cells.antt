@@ -1,9 +1,9 @@
 -- What the cells hold of each element beside the table's number.
-use Rattle.std.specs.Prelude.{◌+◌, ◌-◌, false, cond, ◌&&◌, ◌||◌, List, [], ◌∷◌, ℤ, Some, None, nat_lt, slice_index_or, slice_set}
+use Rattle.std.specs.Prelude.{◌+◌, ◌-◌, false, cond, ◌&&◌, ◌||◌, List, [], ◌∷◌, ℤ, Some, None, Option, nat_lt, slice_index_or, slice_set}
 use Rattle.std.specs.Option.{option_map}
 use Rattle.rules.specs.State.{is_write}
 use Rattle.rules.specs.declared.LockKind.{LockKind}
-use Rattle.inner.specs.declared.slots.Slot.{Slot}
+use Rattle.inner.specs.declared.slots.Held.{Held}
 use Rattle.inner.specs.declared.cells.Cell.{Cell}
 
 -- A cell that nothing was done to.
@@ -27,10 +27,11 @@ abbrev pub raised : Cell → LockKind → ℤ → Cell
 raised c kind v = record { second = cond (is_write kind) (Some v) c.second; holders = c.holders; marked = c.marked }
 
 -- The cells after one slot was given up.
-abbrev pub release_slot : List Cell → Slot → List Cell
-release_slot cells s = cond s.used (slice_set cells s.element.0 (released (slice_index_or cells s.element.0 blank) s.lock.kind)) cells
+abbrev pub release_slot : List Cell → Option Held → List Cell
+release_slot cells None = cells
+release_slot cells (Some h) = slice_set cells h.element.0 (released (slice_index_or cells h.element.0 blank) h.lock.kind)
 
 -- The cells after all slots were given up.
-abbrev pub release_slots : List Cell → List Slot → List Cell
+abbrev pub release_slots : List Cell → List (Option Held) → List Cell
 release_slots cells [] = cells
 release_slots cells (s ∷ ss) = release_slots (release_slot cells s) ss

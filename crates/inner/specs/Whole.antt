@@ -1,13 +1,12 @@
 -- The inner struct as a whole: its parts by number, and what its operations leave.
-use Rattle.std.specs.Prelude.{ℕ, List, [], replicate, None, Option, slice_index_or, slice_set}
+use Rattle.std.specs.Prelude.{ℕ, List, [], replicate, Some, None, Option, slice_index_or, slice_set}
 use Rattle.plant.specs.declared.tables.Element.{Element}
 use Rattle.rules.specs.declared.ClientState.{ClientState}
 use Rattle.rules.specs.declared.ClientState.TheVariants.{Idle}
-use Rattle.inner.specs.declared.slots.Slot.{Slot}
+use Rattle.inner.specs.declared.slots.Held.{Held}
 use Rattle.inner.specs.declared.slots.ClientRecord.{ClientRecord}
 use Rattle.inner.specs.declared.cells.Cell.{Cell}
 use Rattle.inner.specs.declared.whole.Inner.{Inner}
-use Rattle.inner.specs.Slots.{vacant}
 use Rattle.inner.specs.Cells.{blank, release_slots}
 
 -- What is read of a client number that is none.
@@ -24,15 +23,15 @@ cell_of n e = slice_index_or n.cells e blank
 abbrev pub tie_of : Inner → ℕ → Option Element
 tie_of n p = slice_index_or n.ties p None
 
--- 32 slots that are not in use.
-unfoldable pub no_locks : List Slot
-no_locks = replicate 32 vacant
+-- 32 free slots.
+unfoldable pub no_locks : List (Option Held)
+no_locks = replicate 32 None
 
 -- A new inner struct: all clients idle with no locks, all cells blank, no pointer tied.
 unfoldable pub fresh : Inner
 fresh =
     record {
-      clients = replicate 16 (record { state = Idle; slots = replicate 32 vacant });
+      clients = replicate 16 (record { state = Idle; slots = replicate 32 None });
       cells = replicate 256 blank;
       ties = replicate 64 None;
     }
@@ -51,9 +50,9 @@ with_tied n p t = record { clients = n.clients; cells = n.cells; ties = slice_se
 abbrev pub entered_state : Inner → ℕ → ClientState → Inner
 entered_state n c after = with_record n c (record { state = after; slots = (client_of n c).slots })
 
--- One slot of a client set.
-abbrev pub with_slot : Inner → ℕ → ℕ → Slot → Inner
-with_slot n c i s = with_record n c (record { state = (client_of n c).state; slots = slice_set (client_of n c).slots i s })
+-- A lock in one slot of a client.
+abbrev pub with_slot : Inner → ℕ → ℕ → Held → Inner
+with_slot n c i h = with_record n c (record { state = (client_of n c).state; slots = slice_set (client_of n c).slots i (Some h) })
 
 -- A client loses all its locks and comes into a state.
 abbrev pub left : Inner → ℕ → ClientState → Inner

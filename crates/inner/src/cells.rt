@@ -2,7 +2,7 @@
 ghost use Rattle.std.specs.Prelude.{◌≡◌, ◌<◌};
 ghost use Rattle.inner.specs.Cells.{written_hard, released, gained, raised, release_slots};
 
-use super::slots::Slot;
+use super::slots::Held;
 use rules::LockKind;
 
 // An element's second version, how many locks are on it, and its mark.
@@ -18,10 +18,8 @@ impl Cell {
     pub fn write_hard(&mut self, written: i64)
         ensures { self.new ≡ written_hard self.old written }
     {
-        self.marked = self.marked | (self.holders > 0);
-        if let Some(_) = self.second {
-            self.second = Some(written);
-        }
+        self.marked |= self.holders > 0;
+        self.second = self.second.map(|_| written);
     }
 
     // One lock on the cell goes.
@@ -29,7 +27,7 @@ impl Cell {
         ensures { self.new ≡ released self.old kind }
     {
         self.holders = self.holders.saturating_sub(1);
-        if let LockKind::Write = kind {
+        if kind == LockKind::Write {
             self.second = None;
         }
     }
@@ -39,9 +37,9 @@ impl Cell {
         requires { self.old.holders < 65535 }
         ensures { self.new ≡ gained self.old kind number }
     {
-        self.marked = self.marked & (self.holders > 0);
+        self.marked &= self.holders > 0;
         self.holders += 1;
-        if let LockKind::Write = kind {
+        if kind == LockKind::Write {
             self.second = Some(number);
         }
     }
@@ -50,20 +48,21 @@ impl Cell {
     pub fn raise(&mut self, kind: LockKind, shown: i64)
         ensures { self.new ≡ raised self.old kind shown }
     {
-        if let LockKind::Write = kind {
+        if kind == LockKind::Write {
             self.second = Some(shown);
         }
     }
 }
 
 // All locks of these slots go.
-pub fn release_all(cells: &mut [Cell], slots: &[Slot])
+pub fn release_all(cells: &mut [Cell], slots: &[Option<Held>])
     ensures { cells.new ≡ release_slots cells.old slots.now }
 {
-    for slot in slots {
-        let i = slot.element.0 as usize;
-        if slot.used & (i < cells.len()) {
-            cells[i].release(slot.lock.kind);
+    for held in slots.iter().flatten() {
+        let e = usize::from(held.element.0);
+        // Not by `get_mut`: what is written through it is not known of a slice afterwards.
+        if e < cells.len() {
+            cells[e].release(held.lock.kind);
         }
     }
 }

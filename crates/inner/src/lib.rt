@@ -6,5 +6,5 @@ mod slots;
 mod whole;
 
 pub use cells::Cell;
-pub use slots::{ClientRecord, Slot, free_place, lowest_left, place_on};
+pub use slots::{ClientRecord, Held};
 pub use whole::{Inner, inner_size};

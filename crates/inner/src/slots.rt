@@ -1,44 +1,24 @@
 // One client's state and its locks.
-ghost use Rattle.std.specs.Prelude.{◌≡◌};
+ghost use Rattle.std.specs.Prelude.{◌≡◌, is_none, position};
+ghost use Rattle.std.specs.Option.{option_map};
 ghost use Rattle.rules.specs.States.{met};
-ghost use Rattle.inner.specs.Slots.{on, free, first_place, lower, lowest_left};
+ghost use Rattle.inner.specs.Slots.{on, lock_in, lowest_left, left_element};
 
 use plant::{Element, Refusal};
 use rules::{ClientState, Lock, Move};
 
-// Room for one lock: the lock, its element, and whether the slot is in use.
+// A lock with the element that it is on.
 #[derive(Clone, Copy)]
-pub struct Slot {
+pub struct Held {
     pub lock: Lock,
     pub element: Element,
-    pub used: bool,
 }
 
-// A client's state and at most 32 locks.
+// A client's state and its locks, each in one of 32 slots.
 #[derive(Clone, Copy)]
 pub struct ClientRecord {
     pub state: ClientState,
-    pub slots: [Slot; 32],
-}
-
-impl Slot {
-    pub fn is_on(&self, element: Element) -> bool
-        ensures { result ≡ on self.now element.0 }
-    {
-        self.used & (self.element.0 == element.0)
-    }
-
-    // The lower of the number found so far and this slot's element, if it is left for write back.
-    fn lower_of(&self, found: u16) -> u16
-        ensures { result ≡ lower found self.now }
-    {
-        let left = self.used & (self.lock.changed & !self.lock.taken);
-        if left & (self.element.0 < found) {
-            self.element.0
-        } else {
-            found
-        }
-    }
+    pub slots: [Option<Held>; 32],
 }
 
 impl ClientRecord {
@@ -67,39 +47,47 @@ impl ClientRecord {
             (ClientState::ThrownOut, _) => Err(Refusal::ThrownOut),
         }
     }
+
+    // The place of the first slot on an element.
+    pub fn place_on(&self, element: Element) -> Option<usize>
+        ensures { result ≡ position (λ s. on s element.0) self.now.slots }
+    {
+        self.slots
+            .iter()
+            .position(|slot| slot.is_some_and(|held| held.element == element))
+    }
+
+    // The place of the first free slot.
+    pub fn free_place(&self) -> Option<usize>
+        ensures { result ≡ position is_none self.now.slots }
+    {
+        self.slots.iter().position(|slot| slot.is_none())
+    }
+
+    // The lock on an element.
+    pub fn lock_on(&self, element: Element) -> Option<Lock>
+        ensures { result ≡ lock_in self.now.slots element.0 }
+    {
+        let place = self.place_on(element)?;
+        self.slots[place].map(|held| held.lock)
+    }
+
+    // The lowest-numbered element that is left for write back.
+    pub fn lowest_left(&self) -> Option<Element>
+        ensures { option_map (λ e. e.0) result ≡ lowest_left self.now.slots }
+    {
+        self.slots
+            .iter()
+            .filter_map(left_element)
+            .min()
+            .map(Element)
+    }
 }
 
-// The place of the first slot on an element, or the number of slots.
-pub fn place_on(slots: &[Slot], element: Element) -> usize
-    ensures { result ≡ first_place (λ s. on s element.0) slots.now }
+// A slot's element, if it is left for write back.
+fn left_element(slot: &Option<Held>) -> Option<u16>
+    ensures { result ≡ left_element slot.now }
 {
-    for (i, slot) in slots.iter().enumerate() {
-        if slot.is_on(element) {
-            return i;
-        }
-    }
-    slots.len()
-}
-
-// The place of the first free slot, or the number of slots.
-pub fn free_place(slots: &[Slot]) -> usize
-    ensures { result ≡ first_place free slots.now }
-{
-    for (i, slot) in slots.iter().enumerate() {
-        if !slot.used {
-            return i;
-        }
-    }
-    slots.len()
-}
-
-// The lowest-numbered element that is left for write back, or 256 where none is.
-pub fn lowest_left(slots: &[Slot]) -> u16
-    ensures { result ≡ lowest_left 256 slots.now }
-{
-    let mut found = 256;
-    for slot in slots {
-        found = slot.lower_of(found);
-    }
-    found
+    let held = (*slot)?;
+    (held.lock.changed && !held.lock.taken).then_some(held.element.0)
 }

@@ -4,9 +4,10 @@ ghost use Rattle.inner.specs.Cells.{written_hard, gained, raised};
 ghost use Rattle.inner.specs.Whole.{fresh, client_of, cell_of, with_cell, with_tied, entered_state, with_slot, left};
 
 use super::cells::{Cell, release_all};
-use super::slots::{ClientRecord, Slot};
+use super::slots::{ClientRecord, Held};
 use plant::Element;
-use rules::{ClientState, Lock, LockKind};
+use ranks::Client;
+use rules::{ClientState, LockKind, Pointer};
 
 // The clients, the cells of the elements, and what each pointer is tied to.
 #[derive(Drop)]
@@ -16,24 +17,14 @@ pub struct Inner {
     pub ties: [Option<Element>; 64],
 }
 
-const VACANT: Slot = Slot {
-    lock: Lock {
-        kind: LockKind::Read,
-        copy: 0,
-        changed: false,
-        taken: false,
-    },
-    element: Element(0),
-    used: false,
-};
-
 impl Inner {
+    #[tactic(auto, unfolding(crate::specs::Whole::fresh))]
     pub fn new() -> Inner
         ensures { result ≡ fresh }
     {
         let client = ClientRecord {
             state: ClientState::Idle,
-            slots: [VACANT; 32],
+            slots: [None; 32],
         };
         let cell = Cell {
             second: None,
@@ -48,69 +39,69 @@ impl Inner {
     }
 
     // A client comes into a state.
-    pub fn enter(&mut self, client: usize, state: ClientState)
-        requires { client < 16 }
-        ensures { self.new ≡ entered_state self.old client state }
+    pub fn enter(&mut self, client: Client, state: ClientState)
+        requires { client.0 < 16 }
+        ensures { self.new ≡ entered_state self.old client.0 state }
     {
-        let record = &mut self.clients[client];
-        record.state = state;
+        self.clients[usize::from(client.0)].state = state;
     }
 
-    // One slot of a client is set.
-    pub fn set_slot(&mut self, client: usize, place: usize, slot: Slot)
-        requires { (client < 16) × (place < 32) }
-        ensures { self.new ≡ with_slot self.old client place slot }
+    // A lock comes into one slot of a client.
+    pub fn set_slot(&mut self, client: Client, place: usize, held: Held)
+        requires client { client.0 < 16 }
+        requires place { place < 32 }
+        ensures { self.new ≡ with_slot self.old client.0 place held }
     {
-        let record = &mut self.clients[client];
-        record.slots[place] = slot;
+        self.clients[usize::from(client.0)].slots[place] = Some(held);
     }
 
     // A client loses all its locks and comes into a state.
-    pub fn leave(&mut self, client: usize, state: ClientState)
-        requires { (client < 16) × (length (client_of self.old client).slots ≡ 32) }
-        ensures { self.new ≡ left self.old client state }
+    #[tactic(auto, unfolding(crate::specs::Whole::no_locks))]
+    pub fn leave(&mut self, client: Client, state: ClientState)
+        requires client { client.0 < 16 }
+        requires slots { length (client_of self.old client.0).slots ≡ 32 }
+        ensures { self.new ≡ left self.old client.0 state }
     {
-        let slots = self.clients[client].slots;
+        let c = usize::from(client.0);
+        let slots = self.clients[c].slots;
         release_all(&mut self.cells, &slots);
-        self.clients[client] = ClientRecord {
+        self.clients[c] = ClientRecord {
             state,
-            slots: [VACANT; 32],
+            slots: [None; 32],
         };
     }
 
     // A hard write comes to an element's cell.
-    pub fn write_hard(&mut self, element: usize, number: i64)
-        requires { element < 256 }
-        ensures { self.new ≡ with_cell self.old element (written_hard (cell_of self.old element) number) }
+    pub fn write_hard(&mut self, element: Element, number: i64)
+        requires { element.0 < 256 }
+        ensures { self.new ≡ with_cell self.old element.0 (written_hard (cell_of self.old element.0) number) }
     {
-        let cell = &mut self.cells[element];
-        cell.write_hard(number);
+        self.cells[usize::from(element.0)].write_hard(number);
     }
 
     // A new lock comes to an element's cell.
-    pub fn gain(&mut self, element: usize, kind: LockKind, number: i64)
-        requires { (element < 256) × ((cell_of self.old element).holders < 65535) }
-        ensures { self.new ≡ with_cell self.old element (gained (cell_of self.old element) kind number) }
+    pub fn gain(&mut self, element: Element, kind: LockKind, number: i64)
+        requires element { element.0 < 256 }
+        requires room { (cell_of self.old element.0).holders < 65535 }
+        ensures { self.new ≡ with_cell self.old element.0 (gained (cell_of self.old element.0) kind number) }
     {
-        let cell = &mut self.cells[element];
-        cell.gain(kind, number);
+        self.cells[usize::from(element.0)].gain(kind, number);
     }
 
     // A reader of an element gains the write lock.
-    pub fn raise(&mut self, element: usize, kind: LockKind, number: i64)
-        requires { element < 256 }
-        ensures { self.new ≡ with_cell self.old element (raised (cell_of self.old element) kind number) }
+    pub fn raise(&mut self, element: Element, kind: LockKind, number: i64)
+        requires { element.0 < 256 }
+        ensures { self.new ≡ with_cell self.old element.0 (raised (cell_of self.old element.0) kind number) }
     {
-        let cell = &mut self.cells[element];
-        cell.raise(kind, number);
+        self.cells[usize::from(element.0)].raise(kind, number);
     }
 
     // A pointer is tied or untied.
-    pub fn tie(&mut self, pointer: usize, tie: Option<Element>)
-        requires { pointer < 64 }
-        ensures { self.new ≡ with_tied self.old pointer tie }
+    pub fn tie(&mut self, pointer: Pointer, tie: Option<Element>)
+        requires { pointer.0 < 64 }
+        ensures { self.new ≡ with_tied self.old pointer.0 tie }
     {
-        self.ties[pointer] = tie;
+        self.ties[usize::from(pointer.0)] = tie;
     }
 }
 

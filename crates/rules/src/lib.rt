@@ -51,8 +51,8 @@ pub enum Fate {
 // One client's lock on one element.
 #[derive(Clone, Copy)]
 pub struct Lock {
-    pub kind: LockKind,
     pub copy: i64,
+    pub kind: LockKind,
     pub changed: bool,
     pub taken: bool,
 }

@@ -1,27 +1,19 @@
--- Each turn gives up one of the slots that are left.
-use Rattle.std.proofs.Common.{◌≡◌, ◌+◌, get_or, drop, sym, refl, ap, ◌∙◌}
-use Rattle.std.proofs.lemmas.List.{at_drop_more, at_drop_all}
-use Rattle.inner.specs.Slots.{vacant}
-use Rattle.inner.specs.Cells.{release_slot, release_slots}
-use Rattle.inner.proofs.Release.{release_done, release_none}
+use Rattle.std.proofs.Common.{sym, ap, ◌∙◌, arith, rules}
+use Rattle.std.proofs.lemmas.List.{set_past}
+use Rattle.std.specs.List.{fold}
+use Rattle.std.specs.Option.{option_to_list}
+use Rattle.std.proofs.lemmas.Iterator.{YieldsList-from_slice}
+use Rattle.std.proofs.lemmas.Iterator.Adapters.{YieldsList-from_flatten}
+use Rattle.std.proofs.lemmas.Iterator.Consumers.{YieldsList-end}
+use Rattle.inner.proofs.Giving.{release_held, one_more, all_given, YieldsList-from_option}
 use Rattle.inner.proofs.cells.release_all.Goals as goal
-use Rattle.inner.proofs.cells.release_all.Goals.{then-slot-i, else-slot-i}
 
-one : (c : goal.Joined-slot-i) → c.if-slot-i.cells ≡ release_slot c.loop-slot.cells (get_or c.args.slots.now c.loop-slot.slot-index vacant)
-one c = elim c.if-slot-i.branch [
-  | then-slot-i w ↦ release_done c.loop-slot.cells (get_or c.args.slots.now c.loop-slot.slot-index vacant) w.release.new.self c.if-slot-i.cells w.if-slot-i.true w.release.ensures w.cells-is
-  | else-slot-i w ↦ release_none c.loop-slot.cells (get_or c.args.slots.now c.loop-slot.slot-index vacant) c.if-slot-i.cells w.if-slot-i.false w.cells-is
-]
-
-pub loop-slot-preserved : goal.loop-slot-preserved
-loop-slot-preserved c =
-    let e : release_slots c.loop-slot.cells (drop c.loop-slot.slot-index c.args.slots.now)
-    ≡ release_slots (release_slot c.loop-slot.cells (get_or c.args.slots.now c.loop-slot.slot-index vacant)) (drop (c.loop-slot.slot-index + 1) c.args.slots.now)
-    = at_drop_more (release_slots c.loop-slot.cells) c.args.slots.now c.loop-slot.slot-index vacant c.loop-slot-test.true
-    in ap (λ f. release_slots f (drop (c.loop-slot.slot-index + 1) c.args.slots.now)) (one c) ∙ sym e ∙ c.loop-slot.invariant
-
-pub loop-slot-init : goal.loop-slot-init
-loop-slot-init c = refl
+pub loop-held-preserved : goal.loop-held-preserved
+loop-held-preserved c = one_more c.loop-held.cells _ c.args.cells.now c.loop-held.yielded c.in-Some.held c.loop-held.invariant
+    (sym (set_past c.loop-held.cells c.in-Some.held.now.element.0 _ (omega arith)))
 
 pub returns : goal.returns
-returns c = sym (at_drop_all (release_slots c.loop-slot.cells) c.args.slots.now c.loop-slot.slot-index c.loop-slot-test.false) ∙ c.loop-slot.invariant
+returns c =
+    let held = YieldsList-from_flatten _ _ (λ y. y.now) option_to_list (λ x j b. YieldsList-from_option x.now b.0 b.1) (YieldsList-from_slice c.args.slots.now (search rules)) (search rules) (search rules) (search rules) in
+    let given = YieldsList-end held c.loop-held.yielded _ c.loop-held.yielded_by _ _ c.in-None.is c.next.ensures.steps in
+    c.loop-held.invariant ∙ ap (fold release_held c.args.cells.now) given.0 ∙ all_given c.args.slots.now c.args.cells.now

@@ -1,7 +1,8 @@
-use Rattle.std.proofs.Common.{◌≡◌, drop}
-use Rattle.inner.specs.Cells.{release_slots}
+use Rattle.std.proofs.Common.{◌≡◌, map}
+use Rattle.std.specs.List.{fold}
+use Rattle.inner.proofs.Giving.{release_held}
 use Rattle.inner.proofs.cells.release_all.Given as goal
 
--- What the slots that are left make of the cells as they are is what all make of them as they were.
-abbrev pub invariant-loop-slot : goal.invariant-loop-slot
-invariant-loop-slot l = release_slots l.cells (drop l.slot-index l.slots) ≡ release_slots l.initial.cells l.slots
+-- The locks so far are given up.
+abbrev pub invariant-loop-held : goal.invariant-loop-held
+invariant-loop-held l = l.cells ≡ fold release_held l.initial.cells (map (λ y. y.now) l.yielded)

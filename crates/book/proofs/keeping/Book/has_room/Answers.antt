@@ -1,14 +1,12 @@
-use Rattle.std.proofs.Common.{◌≡◌, true, ltb, [], is_some, sym, ap, ◌∙◌}
-use Rattle.rules.specs.Scans.{count_below}
-use Rattle.inner.specs.Slots.{lock_in}
-use Rattle.inner.proofs.ScanLaws.{count_none}
-use Rattle.book.proofs.ReadLaws.{sound_of, past_clients, room_left}
+use Rattle.std.proofs.Common.{◌≡◌, ◌<◌, true, ltb, is_some, is_none, rules, position}
+use Rattle.inner.specs.Whole.{nobody, client_of}
+use Rattle.book.specs.Requests.{lock_total}
+use Rattle.book.proofs.ReadLaws.{sound_of, room_left, room_past}
 use Rattle.book.proofs.keeping.Book.has_room.Goals as goal
 
-pub returns-then-c-ge16 : goal.returns-then-c-ge16
-returns-then-c-ge16 c =
-    let e : true ≡ ltb (count_below 256 (λ e. is_some (lock_in [] e))) 32 = ap (λ k. ltb k 32) (sym (count_none 256)) in
-    e ∙ ap (λ x. ltb (count_below 256 (λ e. is_some (lock_in x.slots e))) 32) (past_clients c.args.self.now.inner (sound_of c.args.self.now) c.args.client.0 c.if-c-ge16.true)
-
 pub returns : goal.returns
-returns c = room_left c.args.self.now.inner (sound_of c.args.self.now) c.args.client.0 c.if-c-ge16.false c.free_place_of.result c.free_place_of.ensures
+returns c =
+    let n = c.args.self.now.inner in
+    let there : c.args.client.0 < 16 → is_some (position is_none (client_of n c.args.client.0).slots) ≡ ltb (lock_total n c.args.client.0) 32 = room_left n (sound_of c.args.self.now) c.args.client.0 in
+    let past : nobody ≡ client_of n c.args.client.0 → ltb (lock_total n c.args.client.0) 32 ≡ true = room_past n (sound_of c.args.self.now) c.args.client.0 in
+    search rules

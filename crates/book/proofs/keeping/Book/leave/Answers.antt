@@ -9,8 +9,8 @@ use Rattle.book.proofs.keeping.Book.leave.Goals as goal
 
 pub invariant_of-self : goal.invariant_of-self
 invariant_of-self c =
-    owed c.leave.new.self (left c.args.self.now.inner c.args.client.0 c.args.after) c.leave.ensures
-    (sound_left c.args.self.now.inner (sound_of c.args.self.now) c.args.client.0 c.args.after c.requires)
+    owed c.leave.new.self (left c.args.self.now.inner c.args.turn.client.0 c.args.turn.after) c.leave.ensures
+    (sound_left c.args.self.now.inner (sound_of c.args.self.now) c.args.turn.client.0 c.args.turn.after c.args.turn.known)
 
 pub returns : goal.returns
-returns c = λ m. ap (model m) c.leave.ensures ∙ model_leave m c.args.self.now.inner (sound_of c.args.self.now) c.args.client.0 c.args.after c.requires
+returns c = λ m. ap (model m) c.leave.ensures ∙ model_leave m c.args.self.now.inner (sound_of c.args.self.now) c.args.turn.client.0 c.args.turn.after c.args.turn.known

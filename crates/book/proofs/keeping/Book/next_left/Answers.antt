@@ -1,16 +1,12 @@
-use Rattle.std.proofs.Common.{ap, arith}
+use Rattle.std.proofs.Common.{ℕ, ap, ◌∙◌}
+use Rattle.std.specs.Option.{option_map}
 use Rattle.inner.specs.Slots.{lowest_left}
-use Rattle.book.proofs.ReadLaws.{sound_of, past_clients, left_some, left_none}
+use Rattle.book.proofs.ReadLaws.{sound_of, left_first}
 use Rattle.book.proofs.keeping.Book.next_left.Goals as goal
 
-pub returns-then-c-ge16 : goal.returns-then-c-ge16
-returns-then-c-ge16 c =
-    left_none c.args.self.now.inner (sound_of c.args.self.now) c.args.client.0 256
-    (ap (λ x. lowest_left 256 x.slots) (past_clients c.args.self.now.inner (sound_of c.args.self.now) c.args.client.0 c.if-c-ge16.true))
-    (omega arith)
+pub returns-in_err-record : goal.returns-in_err-record
+returns-in_err-record c =
+    ap (option_map {U = ℕ} (λ e. e.0)) c.from_residual.ensures ∙ ap (λ r. lowest_left r.slots) c.in_err-record.ensures.value ∙ left_first c.args.self.now.inner (sound_of c.args.self.now) c.args.client.0
 
-pub returns-then-lowest-ge256 : goal.returns-then-lowest-ge256
-returns-then-lowest-ge256 c = left_none c.args.self.now.inner (sound_of c.args.self.now) c.args.client.0 c.lowest_left-lowest.result c.lowest_left-lowest.ensures c.if-lowest-ge256.true
-
-pub returns-else-lowest-ge256 : goal.returns-else-lowest-ge256
-returns-else-lowest-ge256 c = left_some c.args.self.now.inner (sound_of c.args.self.now) c.args.client.0 c.lowest_left-lowest.result c.lowest_left-lowest.ensures c.if-lowest-ge256.false
+pub returns : goal.returns
+returns c = c.lowest_left.ensures ∙ ap (λ r. lowest_left r.slots) c.in_ok-record.ensures.value ∙ left_first c.args.self.now.inner (sound_of c.args.self.now) c.args.client.0

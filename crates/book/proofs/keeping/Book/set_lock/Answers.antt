@@ -1,21 +1,21 @@
-use Rattle.std.proofs.Common.{◌≡◌, ap, ◌∙◌}
-use Rattle.inner.specs.Whole.{with_slot}
+use Rattle.std.proofs.Common.{sym, ap, ◌∙◌}
+use Rattle.inner.specs.declared.slots.Held.{Held}
+use Rattle.inner.specs.Whole.{client_of, with_slot}
 use Rattle.book.specs.Model.{model}
 use Rattle.book.proofs.ReadLaws.{sound_of}
-use Rattle.book.proofs.ChangeLaws.{owed, slot_on, place_small, other_sound, other_model}
+use Rattle.book.proofs.ChangeLaws.{owed, place_there, other_sound, other_model}
 use Rattle.book.proofs.keeping.Book.set_lock.Goals as goal
-
-pub set_slot-requires : goal.set_slot-requires
-set_slot-requires c =
-    (c.requires.0, place_small c.args.self.now.inner (sound_of c.args.self.now) c.args.client.0 c.args.element.0 c.requires.0 c.requires.1 c.place_of-place.result c.place_of-place.ensures)
 
 pub invariant_of-self : goal.invariant_of-self
 invariant_of-self c =
-    owed c.set_slot.new.self (with_slot c.args.self.now.inner c.args.client.0 c.place_of-place.result (slot_on c.args.lock c.args.element.0)) c.set_slot.ensures
-    (other_sound c.args.self.now.inner (sound_of c.args.self.now) c.args.client.0 c.args.element.0 c.requires.0 c.requires.1 c.place_of-place.result c.place_of-place.ensures c.args.lock)
+    owed c.set_slot.new.self (with_slot c.args.self.now.inner c.args.client.0 c.in-Some.place (record { lock = c.args.lock; element = c.args.element })) c.set_slot.ensures
+    (other_sound c.args.self.now.inner (sound_of c.args.self.now) c.args.client.0 (record { lock = c.args.lock; element = c.args.element }) c.in-Some.place (sym c.in-Some.ensures))
 
-pub returns : goal.returns
-returns c =
-    let e : c.set_slot.new.self ≡ with_slot c.args.self.now.inner c.args.client.0 c.place_of-place.result (slot_on c.args.lock c.args.element.0) = c.set_slot.ensures in
-    λ m. ap (model m) e
-    ∙ other_model c.args.self.now.inner (sound_of c.args.self.now) c.args.client.0 c.args.element.0 c.requires.0 c.requires.1 c.place_of-place.result c.place_of-place.ensures c.args.lock m
+pub returns-in-Some : goal.returns-in-Some
+returns-in-Some c =
+    let new : Held = record { lock = c.args.lock; element = c.args.element } in
+    λ m. ap (model m) c.set_slot.ensures
+    ∙ other_model c.args.self.now.inner (sound_of c.args.self.now) c.args.client.0 new c.in-Some.place (sym c.in-Some.ensures) m
+
+pub returns-in_default : goal.returns-in_default
+returns-in_default c = λ m. place_there (client_of c.args.self.now.inner c.args.client.0).slots c.args.element.0 _ _ c.requires (sym c.place_of.ensures ∙ c.in_default.is)

@@ -1,5 +1,5 @@
 use Rattle.std.proofs.Common.{rules}
 use Rattle.engine.proofs.opening.Engine.begin.Goals as goal
 
-pub returns : goal.returns
-returns g c = let h = c.enter.ensures (g.T.Table.meaning c.args.self.now.table) in search rules
+pub returns-clause-value : goal.returns-clause-value
+returns-clause-value g c = let h = c.enter.ensures (g.T.Table.meaning c.args.self.now.table) in search rules

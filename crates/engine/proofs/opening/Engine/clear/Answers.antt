@@ -1,5 +1,0 @@
-use Rattle.std.proofs.Common.{rules}
-use Rattle.engine.proofs.opening.Engine.clear.Goals as goal
-
-pub returns : goal.returns
-returns g c = let h = c.enter.ensures (g.T.Table.meaning c.args.self.now.table) in search rules
