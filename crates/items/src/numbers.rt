@@ -28,11 +28,7 @@ fn plain_size(text: &[u8]) -> Option<u64>
     ensures value { MatchOption result (OneToTenDigits text.now → ⊥) (λ size. OneToTenDigits text.now × (size ≡ worth 0 text.now)) }
     ensures bound { IfSome result (λ size. size < 10 ^ 10) }
 {
-    if is_plain(text) {
-        Some(worth_of(text))
-    } else {
-        None
-    }
+    is_plain(text).then(|| worth_of(text))
 }
 
 // The size that digits write, in thousands with a k behind them; `None` where the text is no such thing.
