@@ -48,11 +48,8 @@ items within place (b ∷ bs) =
 
 -- Whether a mark is the line's end.
 abbrev pub is_end : Mark → Bool
-is_end opening = false
-is_end closing = false
-is_end (word t) = false
-is_end (number z) = false
 is_end line_end = true
+is_end _ = false
 
 -- The items behind the first one; at the line's end one stays there.
 abbrev pub behind : List (ℕ × Mark) → List (ℕ × Mark)
@@ -61,11 +58,8 @@ behind (it ∷ its) = cond (is_end it.1) (it ∷ its) its
 
 -- What stands behind the first item; nothing stands behind the line's end.
 abbrev pub after_item : Mark → List (ℕ × Mark) → List (ℕ × Mark)
-after_item opening rest = rest
-after_item closing rest = rest
-after_item (word text) rest = rest
-after_item (number z) rest = rest
 after_item line_end rest = []
+after_item _ rest = rest
 
 -- What a kind of the code stands for.
 abbrev pub mark_of : Kind → Mark
@@ -93,11 +87,9 @@ end_of item = item.place - 1 + length_of item.kind
 
 -- A word or a number borrows the run at the front of the bytes, and a number is the one that the run spells.
 abbrev pub IsCutFrom : List ℕ → Kind → Type 0
-IsCutFrom bytes Kind.Open = Unit {0}
-IsCutFrom bytes Kind.Close = Unit {0}
 IsCutFrom bytes (Kind.Word text) = text.now ≡ run_of bytes
 IsCutFrom bytes (Kind.Number text z) = (text.now ≡ run_of bytes) × Numeral text.now z
-IsCutFrom bytes Kind.End = Unit {0}
+IsCutFrom bytes _ = Unit {0}
 
 -- What is left of a line from an offset, as items. An offset behind the line's end counts as its end.
 abbrev pub items_from : List ℕ → ℕ → List (ℕ × Mark)
