@@ -70,7 +70,7 @@ pub enum Form {
 const MOST_ELEMENTS: u16 = 256;
 
 // The numbers of a line by what they stand for; 0 where the line has none.
-#[derive(Clone, Copy, Default, PartialEq, Eq, Debug)]
+#[derive(Clone, Copy, Default)]
 pub struct Numbers {
     client: u16,
     element: u16,

@@ -207,30 +207,11 @@ reads_as opened line answer e = subst (Reads opened line) (sym e) (reading_by op
 -- two parts that one item could fit
 abbrev alike : Part → Part → Bool
 alike Part.Open Part.Open = true
-alike Part.Open Part.Close = false
-alike Part.Open (Part.Word v) = false
-alike Part.Open (Part.Number k) = false
-alike Part.Open Part.End = false
-alike Part.Close Part.Open = false
 alike Part.Close Part.Close = true
-alike Part.Close (Part.Word v) = false
-alike Part.Close (Part.Number k) = false
-alike Part.Close Part.End = false
-alike (Part.Word w) Part.Open = false
-alike (Part.Word w) Part.Close = false
 alike (Part.Word w) (Part.Word v) = bytes_eq (spell w) (spell v)
-alike (Part.Word w) (Part.Number k) = false
-alike (Part.Word w) Part.End = false
-alike (Part.Number r) Part.Open = false
-alike (Part.Number r) Part.Close = false
-alike (Part.Number r) (Part.Word v) = false
 alike (Part.Number r) (Part.Number k) = true
-alike (Part.Number r) Part.End = false
-alike Part.End Part.Open = false
-alike Part.End Part.Close = false
-alike Part.End (Part.Word v) = false
-alike Part.End (Part.Number k) = false
 alike Part.End Part.End = true
+alike _ _ = false
 
 -- an item that fits a part fits only parts like it
 alike_from : {p : Part} {m : Mark} → Fit p m → (q : Part) → fits q m ≡ true → alike p q ≡ true

@@ -80,11 +80,8 @@ items_good w p (b ∷ bs) = good_by w p b bs (eqb b 32) (eqb b 40) (eqb b 41) (i
 
 -- the line's end is the last part of a shape, and no other
 abbrev pub is_last : Part → Bool
-is_last Part.Open = false
-is_last Part.Close = false
-is_last (Part.Word w) = false
-is_last (Part.Number r) = false
 is_last Part.End = true
+is_last _ = false
 
 abbrev pub Ends : List Part → Type 0
 Ends [] = ⊥

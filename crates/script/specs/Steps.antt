@@ -1,13 +1,11 @@
 -- How the reader goes through the shapes. What it finds is said by Reading; its promise ties the two.
 use Rattle.std.specs.Prelude.{ℕ, max, Bool, true, false, cond, List, [], ◌∷◌, length, Ok, Err, Option, Result, nat_lt}
 use Rattle.std.specs.Str.{bytes_eq}
-use Rattle.items.specs.Items.{Mark, opening, closing, word, number, is_end, behind}
+use Rattle.items.specs.Items.{Mark, opening, closing, word, number, line_end, behind}
 use Rattle.forms.specs.Shapes.{spell, parts_of, shapes, allows}
 use Rattle.forms.specs.Forms.{in_range, blank, form_of}
 use Rattle.script.specs.Reading.{noted_at, line_items, in_turn}
 use Rattle.forms.specs.declared.shapes.RankKind.{RankKind}
-use Rattle.forms.specs.declared.shapes.Role.{Role}
-use Rattle.forms.specs.declared.shapes.Word.{Word}
 use Rattle.forms.specs.declared.shapes.Part.{Part}
 use Rattle.forms.specs.declared.shapes.Shape.{Shape}
 use Rattle.forms.specs.declared.makers.Form.{Form}
@@ -15,33 +13,14 @@ use Rattle.forms.specs.declared.makers.Numbers.{Numbers}
 use Rattle.script.specs.declared.reader.Fault.{Fault}
 use Rattle.plant.specs.declared.refusals.Refusal.{Refusal}
 
--- Whether an item is an opening bracket.
-abbrev pub is_opening : Mark → Bool
-is_opening opening = true
-is_opening _ = false
-
--- Whether it is a closing bracket.
-abbrev pub is_closing : Mark → Bool
-is_closing closing = true
-is_closing _ = false
-
--- Whether it is this word.
-abbrev pub is_word : Word → Mark → Bool
-is_word w (word text) = bytes_eq text (spell w)
-is_word w _ = false
-
--- Whether it is a number in this range.
-abbrev pub is_number : Role → Mark → Bool
-is_number role (number z) = in_range role z
-is_number role _ = false
-
--- Whether an item fits a part of a shape.
+-- Whether an item fits a part of a shape: the same bracket, the same word, a number in its range, or the line's end.
 abbrev pub fits : Part → Mark → Bool
-fits Part.Open m = is_opening m
-fits Part.Close m = is_closing m
-fits (Part.Word w) m = is_word w m
-fits (Part.Number r) m = is_number r m
-fits Part.End m = is_end m
+fits Part.Open opening = true
+fits Part.Close closing = true
+fits (Part.Word w) (word text) = bytes_eq text (spell w)
+fits (Part.Number role) (number z) = in_range role z
+fits Part.End line_end = true
+fits _ _ = false
 
 -- A walk along a shape: the numbers met along all of it, or the place of the first item that does not fit.
 abbrev pub walk_of : Numbers → List Part → List (ℕ × Mark) → Result Numbers ℕ
