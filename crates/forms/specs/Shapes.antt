@@ -1,5 +1,6 @@
 -- The table of shapes: what each form looks like, item by item.
 use Rattle.std.specs.Prelude.{ℕ, Bool, true, false, List, [], ◌∷◌, ℤ, pos, negsuc, Some, None, codes, Option}
+use Rattle.rules.specs.declared.LockKind.{LockKind}
 use Rattle.forms.specs.declared.shapes.RankKind.{RankKind}
 use Rattle.forms.specs.declared.shapes.Role.{Role}
 use Rattle.forms.specs.declared.shapes.Word.{Word}
@@ -28,34 +29,24 @@ spell Word.Due = codes "due"
 
 -- The smallest number that may stand for each thing.
 abbrev pub lowest : Role → ℤ
-lowest Role.Client = pos 0
-lowest Role.Element = pos 0
-lowest Role.Pointer = pos 0
-lowest Role.Count = pos 0
-lowest Role.Grade = pos 0
-lowest Role.Minute = pos 0
-lowest Role.Weight = pos 0
 lowest Role.Value = negsuc 2_147_483_647
+lowest _ = pos 0
 
 -- The largest one.
 abbrev pub highest : Role → ℤ
-highest Role.Client = pos 65_535
-highest Role.Element = pos 65_535
-highest Role.Pointer = pos 65_535
 highest Role.Count = pos 256
 highest Role.Grade = pos 255
-highest Role.Minute = pos 65_535
-highest Role.Weight = pos 65_535
 highest Role.Value = pos 2_147_483_647
+highest _ = pos 65_535
 
 -- The items of each shape, the line's end last.
 abbrev pub parts_of : Shape → List Part
-parts_of Shape.OpenGrade = Part.Open ∷ Part.Word Word.Open ∷ Part.Number Role.Count ∷ Part.Open ∷ Part.Word Word.Grade ∷ Part.Close ∷ Part.Close ∷ Part.End ∷ []
-parts_of Shape.OpenDue = Part.Open ∷ Part.Word Word.Open ∷ Part.Number Role.Count ∷ Part.Open ∷ Part.Word Word.Due ∷ Part.Close ∷ Part.Close ∷ Part.End ∷ []
-parts_of Shape.BeginGrade = Part.Open ∷ Part.Word Word.Begin ∷ Part.Number Role.Client ∷ Part.Open ∷ Part.Word Word.Grade ∷ Part.Number Role.Grade ∷ Part.Close ∷ Part.Close ∷ Part.End ∷ []
-parts_of Shape.BeginDue = Part.Open ∷ Part.Word Word.Begin ∷ Part.Number Role.Client ∷ Part.Open ∷ Part.Word Word.Due ∷ Part.Number Role.Minute ∷ Part.Number Role.Weight ∷ Part.Close ∷ Part.Close ∷ Part.End ∷ []
-parts_of Shape.LockRead = Part.Open ∷ Part.Word Word.Lock ∷ Part.Number Role.Client ∷ Part.Open ∷ Part.Word Word.Read ∷ Part.Number Role.Element ∷ Part.Close ∷ Part.Close ∷ Part.End ∷ []
-parts_of Shape.LockWrite = Part.Open ∷ Part.Word Word.Lock ∷ Part.Number Role.Client ∷ Part.Open ∷ Part.Word Word.Write ∷ Part.Number Role.Element ∷ Part.Close ∷ Part.Close ∷ Part.End ∷ []
+parts_of (Shape.Open RankKind.Grade) = Part.Open ∷ Part.Word Word.Open ∷ Part.Number Role.Count ∷ Part.Open ∷ Part.Word Word.Grade ∷ Part.Close ∷ Part.Close ∷ Part.End ∷ []
+parts_of (Shape.Open RankKind.Due) = Part.Open ∷ Part.Word Word.Open ∷ Part.Number Role.Count ∷ Part.Open ∷ Part.Word Word.Due ∷ Part.Close ∷ Part.Close ∷ Part.End ∷ []
+parts_of (Shape.Begin RankKind.Grade) = Part.Open ∷ Part.Word Word.Begin ∷ Part.Number Role.Client ∷ Part.Open ∷ Part.Word Word.Grade ∷ Part.Number Role.Grade ∷ Part.Close ∷ Part.Close ∷ Part.End ∷ []
+parts_of (Shape.Begin RankKind.Due) = Part.Open ∷ Part.Word Word.Begin ∷ Part.Number Role.Client ∷ Part.Open ∷ Part.Word Word.Due ∷ Part.Number Role.Minute ∷ Part.Number Role.Weight ∷ Part.Close ∷ Part.Close ∷ Part.End ∷ []
+parts_of (Shape.Lock LockKind.Read) = Part.Open ∷ Part.Word Word.Lock ∷ Part.Number Role.Client ∷ Part.Open ∷ Part.Word Word.Read ∷ Part.Number Role.Element ∷ Part.Close ∷ Part.Close ∷ Part.End ∷ []
+parts_of (Shape.Lock LockKind.Write) = Part.Open ∷ Part.Word Word.Lock ∷ Part.Number Role.Client ∷ Part.Open ∷ Part.Word Word.Write ∷ Part.Number Role.Element ∷ Part.Close ∷ Part.Close ∷ Part.End ∷ []
 parts_of Shape.Read = Part.Open ∷ Part.Word Word.Read ∷ Part.Number Role.Client ∷ Part.Number Role.Element ∷ Part.Close ∷ Part.End ∷ []
 parts_of Shape.Change = Part.Open ∷ Part.Word Word.Change ∷ Part.Number Role.Client ∷ Part.Number Role.Element ∷ Part.Number Role.Value ∷ Part.Close ∷ Part.End ∷ []
 parts_of Shape.Commit = Part.Open ∷ Part.Word Word.Commit ∷ Part.Number Role.Client ∷ Part.Close ∷ Part.End ∷ []
@@ -71,37 +62,26 @@ parts_of Shape.Put = Part.Open ∷ Part.Word Word.Put ∷ Part.Number Role.Point
 -- All shapes.
 abbrev pub shapes : List Shape
 shapes =
-    Shape.OpenGrade ∷ Shape.OpenDue ∷ Shape.BeginGrade ∷ Shape.BeginDue ∷ Shape.LockRead ∷ Shape.LockWrite ∷ Shape.Read ∷ Shape.Change ∷ Shape.Commit ∷ Shape.Back ∷ Shape.End ∷ Shape.GiveUp ∷ Shape.Clear ∷ Shape.Bind ∷ Shape.Remove ∷ Shape.Get ∷ Shape.Put ∷ []
+    Shape.Open RankKind.Grade ∷ Shape.Open RankKind.Due ∷ Shape.Begin RankKind.Grade ∷ Shape.Begin RankKind.Due ∷ Shape.Lock LockKind.Read ∷ Shape.Lock LockKind.Write ∷ Shape.Read ∷ Shape.Change ∷ Shape.Commit ∷ Shape.Back ∷ Shape.End ∷ Shape.GiveUp ∷ Shape.Clear ∷ Shape.Bind ∷ Shape.Remove ∷ Shape.Get ∷ Shape.Put ∷ []
 
 -- The rank kind that a shape belongs to, if it belongs to one.
 abbrev pub rank_kind : Shape → Option RankKind
-rank_kind Shape.OpenGrade = Some RankKind.Grade
-rank_kind Shape.OpenDue = Some RankKind.Due
-rank_kind Shape.BeginGrade = Some RankKind.Grade
-rank_kind Shape.BeginDue = Some RankKind.Due
-rank_kind Shape.LockRead = None
-rank_kind Shape.LockWrite = None
-rank_kind Shape.Read = None
-rank_kind Shape.Change = None
-rank_kind Shape.Commit = None
-rank_kind Shape.Back = None
-rank_kind Shape.End = None
-rank_kind Shape.GiveUp = None
-rank_kind Shape.Clear = None
-rank_kind Shape.Bind = None
-rank_kind Shape.Remove = None
-rank_kind Shape.Get = None
-rank_kind Shape.Put = None
+rank_kind (Shape.Open kind) = Some kind
+rank_kind (Shape.Begin kind) = Some kind
+rank_kind _ = None
+
+-- Whether two rank kinds are the same.
+abbrev pub same_kind : RankKind → RankKind → Bool
+same_kind RankKind.Grade RankKind.Grade = true
+same_kind RankKind.Grade RankKind.Due = false
+same_kind RankKind.Due RankKind.Grade = false
+same_kind RankKind.Due RankKind.Due = true
 
 -- Whether two rank kinds, each known or not, may stand together: they may unless they differ.
 abbrev pub together : Option RankKind → Option RankKind → Bool
-together None k = true
-together (Some RankKind.Grade) None = true
-together (Some RankKind.Grade) (Some RankKind.Grade) = true
-together (Some RankKind.Grade) (Some RankKind.Due) = false
-together (Some RankKind.Due) None = true
-together (Some RankKind.Due) (Some RankKind.Grade) = false
-together (Some RankKind.Due) (Some RankKind.Due) = true
+together None kind = true
+together (Some opened) None = true
+together (Some opened) (Some kind) = same_kind opened kind
 
 -- Whether a shape is allowed. Before an open each is; then none of the other rank kind.
 abbrev pub allows : Option RankKind → Shape → Bool

@@ -4,5 +4,5 @@
 mod makers;
 mod shapes;
 
-pub use makers::{Form, Numbers, is_open, make_form, no_numbers, with_number};
-pub use shapes::{Part, RankKind, Role, SHAPES, Shape, Word, is_allowed, parts, spelling};
+pub use makers::{Form, Numbers};
+pub use shapes::{Part, RankKind, Role, SHAPES, Shape, Word};

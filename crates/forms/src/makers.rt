@@ -6,7 +6,7 @@ use super::shapes::{RankKind, Role, Shape};
 use rules::LockKind;
 
 // What a line asks for, with its plain numbers.
-#[derive(Clone, Copy)]
+#[derive(Clone, Copy, PartialEq, Eq, Debug)]
 pub enum Form {
     Open {
         count: u16,
@@ -66,8 +66,11 @@ pub enum Form {
     },
 }
 
+// As many elements as an open may ask for.
+const MOST_ELEMENTS: u16 = 256;
+
 // The numbers of a line by what they stand for; 0 where the line has none.
-#[derive(Clone, Copy)]
+#[derive(Clone, Copy, Default)]
 pub struct Numbers {
     client: u16,
     element: u16,
@@ -79,155 +82,102 @@ pub struct Numbers {
     value: i32,
 }
 
-// No numbers yet.
-pub fn no_numbers() -> Numbers
-    ensures { result ≡ blank }
+// A number of elements that an open may ask for.
+fn count_of(number: i64) -> Option<u16>
+    ensures { result ≡ (if in_range Role.Count number then Some (unsigned_abs number) else None) }
 {
-    Numbers {
-        client: 0,
-        element: 0,
-        pointer: 0,
-        count: 0,
-        grade: 0,
-        minute: 0,
-        weight: 0,
-        value: 0,
+    u16::try_from(number)
+        .ok()
+        .filter(|count| *count <= MOST_ELEMENTS)
+}
+
+impl Numbers {
+    // No numbers yet.
+    pub fn none() -> Numbers
+        ensures { result ≡ blank }
+    {
+        Numbers::default()
+    }
+
+    // The numbers with one more, or `None` where that is out of its range.
+    pub fn with(self, role: Role, number: i64) -> Option<Numbers>
+        ensures { result ≡ (if in_range role number then Some (noted self role number) else None) }
+    {
+        let mut numbers = self;
+        match role {
+            Role::Client => numbers.client = u16::try_from(number).ok()?,
+            Role::Element => numbers.element = u16::try_from(number).ok()?,
+            Role::Pointer => numbers.pointer = u16::try_from(number).ok()?,
+            Role::Count => numbers.count = count_of(number)?,
+            Role::Grade => numbers.grade = u8::try_from(number).ok()?,
+            Role::Minute => numbers.minute = u16::try_from(number).ok()?,
+            Role::Weight => numbers.weight = u16::try_from(number).ok()?,
+            Role::Value => numbers.value = i32::try_from(number).ok()?,
+        }
+        Some(numbers)
     }
 }
 
-// A number from 0 to `most`.
-fn small(number: i64, most: u16) -> Option<u16>
-    ensures { result ≡ (if int_le (pos 0) number && int_le number (pos most) then Some (unsigned_abs number) else None) }
-{
-    if number < 0 || number > most as i64 {
-        None
-    } else {
-        Some(number as u16)
-    }
-}
-
-// A number from 0 to 255.
-fn byte(number: i64) -> Option<u8>
-    ensures { result ≡ (if int_le (pos 0) number && int_le number (pos 255) then Some (unsigned_abs number) else None) }
-{
-    if number < 0 || number > 255 {
-        None
-    } else {
-        Some(number as u8)
-    }
-}
-
-// The numbers with one more, or `None` where that is out of its range.
-pub fn with_number(numbers: Numbers, role: Role, number: i64) -> Option<Numbers>
-    ensures { result ≡ (if in_range role number then Some (noted numbers role number) else None) }
-{
-    match role {
-        Role::Client => Some(Numbers {
-            client: small(number, 65_535)?,
-            ..numbers
-        }),
-        Role::Element => Some(Numbers {
-            element: small(number, 65_535)?,
-            ..numbers
-        }),
-        Role::Pointer => Some(Numbers {
-            pointer: small(number, 65_535)?,
-            ..numbers
-        }),
-        Role::Count => Some(Numbers {
-            count: small(number, 256)?,
-            ..numbers
-        }),
-        Role::Grade => Some(Numbers {
-            grade: byte(number)?,
-            ..numbers
-        }),
-        Role::Minute => Some(Numbers {
-            minute: small(number, 65_535)?,
-            ..numbers
-        }),
-        Role::Weight => Some(Numbers {
-            weight: small(number, 65_535)?,
-            ..numbers
-        }),
-        Role::Value => {
-            if number < -2_147_483_648 || number > 2_147_483_647 {
-                None
-            } else {
-                Some(Numbers {
-                    value: number as i32,
-                    ..numbers
-                })
-            }
+impl Form {
+    // The begin of a rank kind.
+    fn begin(kind: RankKind, numbers: Numbers) -> Form
+        ensures { result ≡ form_of (Shape.Begin kind) numbers }
+    {
+        match kind {
+            RankKind::Grade => Form::BeginGrade {
+                client: numbers.client,
+                grade: numbers.grade,
+            },
+            RankKind::Due => Form::BeginDue {
+                client: numbers.client,
+                minute: numbers.minute,
+                weight: numbers.weight,
+            },
         }
     }
-}
 
-// The form that a shape and its numbers make.
-pub fn make_form(shape: Shape, n: Numbers) -> Form
-    ensures { result ≡ form_of shape n }
-{
-    match shape {
-        Shape::OpenGrade => Form::Open {
-            count: n.count,
-            kind: RankKind::Grade,
-        },
-        Shape::OpenDue => Form::Open {
-            count: n.count,
-            kind: RankKind::Due,
-        },
-        Shape::BeginGrade => Form::BeginGrade {
-            client: n.client,
-            grade: n.grade,
-        },
-        Shape::BeginDue => Form::BeginDue {
-            client: n.client,
-            minute: n.minute,
-            weight: n.weight,
-        },
-        Shape::LockRead => Form::Lock {
-            client: n.client,
-            kind: LockKind::Read,
-            element: n.element,
-        },
-        Shape::LockWrite => Form::Lock {
-            client: n.client,
-            kind: LockKind::Write,
-            element: n.element,
-        },
-        Shape::Read => Form::Read {
-            client: n.client,
-            element: n.element,
-        },
-        Shape::Change => Form::Change {
-            client: n.client,
-            element: n.element,
-            value: n.value,
-        },
-        Shape::Commit => Form::Commit { client: n.client },
-        Shape::Back => Form::Back { client: n.client },
-        Shape::End => Form::End { client: n.client },
-        Shape::GiveUp => Form::GiveUp { client: n.client },
-        Shape::Clear => Form::Clear { client: n.client },
-        Shape::Bind => Form::Bind {
-            pointer: n.pointer,
-            element: n.element,
-        },
-        Shape::Remove => Form::Remove { pointer: n.pointer },
-        Shape::Get => Form::Get { pointer: n.pointer },
-        Shape::Put => Form::Put {
-            pointer: n.pointer,
-            value: n.value,
-        },
+    // The form that a shape and its numbers make.
+    pub fn new(shape: Shape, numbers: Numbers) -> Form
+        ensures { result ≡ form_of shape numbers }
+    {
+        let Numbers {
+            client,
+            element,
+            pointer,
+            count,
+            value,
+            ..
+        } = numbers;
+        match shape {
+            Shape::Open(kind) => Form::Open { count, kind },
+            Shape::Begin(kind) => Form::begin(kind, numbers),
+            Shape::Lock(kind) => Form::Lock {
+                client,
+                kind,
+                element,
+            },
+            Shape::Read => Form::Read { client, element },
+            Shape::Change => Form::Change {
+                client,
+                element,
+                value,
+            },
+            Shape::Commit => Form::Commit { client },
+            Shape::Back => Form::Back { client },
+            Shape::End => Form::End { client },
+            Shape::GiveUp => Form::GiveUp { client },
+            Shape::Clear => Form::Clear { client },
+            Shape::Bind => Form::Bind { pointer, element },
+            Shape::Remove => Form::Remove { pointer },
+            Shape::Get => Form::Get { pointer },
+            Shape::Put => Form::Put { pointer, value },
+        }
     }
-}
 
-// Whether a form is an open.
-pub fn is_open(form: Form) -> bool
-    ensures { result ≡ opens form }
-{
-    match form {
-        Form::Open { count: _, kind: _ } => true,
-        _ => false,
+    // Whether a form is an open.
+    pub fn is_open(self) -> bool
+        ensures { result ≡ opens self }
+    {
+        matches!(self, Form::Open { .. })
     }
 }

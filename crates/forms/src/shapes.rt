@@ -2,6 +2,8 @@
 ghost use Rattle.std.specs.Prelude.{◌≡◌};
 ghost use Rattle.forms.specs.Shapes.{parts_of, spell, rank_kind, allows};
 
+use rules::LockKind;
+
 #[derive(Clone, Copy, PartialEq, Eq, Debug)]
 pub enum RankKind {
     Grade,
@@ -9,7 +11,7 @@ pub enum RankKind {
 }
 
 // What a number of a form stands for.
-#[derive(Clone, Copy)]
+#[derive(Clone, Copy, PartialEq, Eq, Debug)]
 pub enum Role {
     Client,
     Element,
@@ -21,7 +23,7 @@ pub enum Role {
     Value,
 }
 
-#[derive(Clone, Copy)]
+#[derive(Clone, Copy, PartialEq, Eq, Debug)]
 pub enum Word {
     Open,
     Begin,
@@ -43,7 +45,7 @@ pub enum Word {
 }
 
 // What a shape asks for at one place of a line; `End` is the line's end.
-#[derive(Clone, Copy)]
+#[derive(Clone, Copy, PartialEq, Eq, Debug)]
 pub enum Part {
     Open,
     Close,
@@ -52,14 +54,12 @@ pub enum Part {
     End,
 }
 
-#[derive(Clone, Copy)]
+// What a line looks like; an open, a begin and a lock come in two kinds.
+#[derive(Clone, Copy, PartialEq, Eq, Debug)]
 pub enum Shape {
-    OpenGrade,
-    OpenDue,
-    BeginGrade,
-    BeginDue,
-    LockRead,
-    LockWrite,
+    Open(RankKind),
+    Begin(RankKind),
+    Lock(LockKind),
     Read,
     Change,
     Commit,
@@ -73,28 +73,30 @@ pub enum Shape {
     Put,
 }
 
-// How a word is written.
-pub fn spelling(word: Word) -> &'static [u8]
-    ensures { result.now ≡ spell word }
-{
-    match word {
-        Word::Open => b"open",
-        Word::Begin => b"begin",
-        Word::Lock => b"lock",
-        Word::Read => b"read",
-        Word::Write => b"write",
-        Word::Change => b"change",
-        Word::Commit => b"commit",
-        Word::Back => b"back",
-        Word::End => b"end",
-        Word::GiveUp => b"giveup",
-        Word::Clear => b"clear",
-        Word::Bind => b"bind",
-        Word::Remove => b"remove",
-        Word::Get => b"get",
-        Word::Put => b"put",
-        Word::Grade => b"grade",
-        Word::Due => b"due",
+impl Word {
+    // How a word is written.
+    pub fn spelling(self) -> &'static [u8]
+        ensures { result.now ≡ spell self }
+    {
+        match self {
+            Word::Open => b"open",
+            Word::Begin => b"begin",
+            Word::Lock => b"lock",
+            Word::Read => b"read",
+            Word::Write => b"write",
+            Word::Change => b"change",
+            Word::Commit => b"commit",
+            Word::Back => b"back",
+            Word::End => b"end",
+            Word::GiveUp => b"giveup",
+            Word::Clear => b"clear",
+            Word::Bind => b"bind",
+            Word::Remove => b"remove",
+            Word::Get => b"get",
+            Word::Put => b"put",
+            Word::Grade => b"grade",
+            Word::Due => b"due",
+        }
     }
 }
 
@@ -155,63 +157,69 @@ const WEIGHT: Part = Part::Number(Role::Weight);
 
 const VALUE: Part = Part::Number(Role::Value);
 
-// What a line of this shape holds, in order.
-pub fn parts(shape: Shape) -> &'static [Part]
-    ensures { result.now ≡ parts_of shape }
-{
-    match shape {
-        Shape::OpenGrade => &[LEFT, OPEN, COUNT, LEFT, GRADE, RIGHT, RIGHT, END],
-        Shape::OpenDue => &[LEFT, OPEN, COUNT, LEFT, DUE, RIGHT, RIGHT, END],
-        Shape::BeginGrade => &[LEFT, BEGIN, CLIENT, LEFT, GRADE, RANK, RIGHT, RIGHT, END],
-        Shape::BeginDue => &[
-            LEFT, BEGIN, CLIENT, LEFT, DUE, MINUTE, WEIGHT, RIGHT, RIGHT, END,
-        ],
-        Shape::LockRead => &[LEFT, LOCK, CLIENT, LEFT, READ, ELEMENT, RIGHT, RIGHT, END],
-        Shape::LockWrite => &[LEFT, LOCK, CLIENT, LEFT, WRITE, ELEMENT, RIGHT, RIGHT, END],
-        Shape::Read => &[LEFT, READ, CLIENT, ELEMENT, RIGHT, END],
-        Shape::Change => &[LEFT, CHANGE, CLIENT, ELEMENT, VALUE, RIGHT, END],
-        Shape::Commit => &[LEFT, COMMIT, CLIENT, RIGHT, END],
-        Shape::Back => &[LEFT, BACK, CLIENT, RIGHT, END],
-        Shape::End => &[LEFT, END_WORD, CLIENT, RIGHT, END],
-        Shape::GiveUp => &[LEFT, GIVEUP, CLIENT, RIGHT, END],
-        Shape::Clear => &[LEFT, CLEAR, CLIENT, RIGHT, END],
-        Shape::Bind => &[LEFT, BIND, POINTER, ELEMENT, RIGHT, END],
-        Shape::Remove => &[LEFT, REMOVE, POINTER, RIGHT, END],
-        Shape::Get => &[LEFT, GET, POINTER, RIGHT, END],
-        Shape::Put => &[LEFT, PUT, POINTER, VALUE, RIGHT, END],
+impl Shape {
+    // What a line of this shape holds, in order.
+    pub fn parts(self) -> &'static [Part]
+        ensures { result.now ≡ parts_of self }
+    {
+        match self {
+            Shape::Open(RankKind::Grade) => &[LEFT, OPEN, COUNT, LEFT, GRADE, RIGHT, RIGHT, END],
+            Shape::Open(RankKind::Due) => &[LEFT, OPEN, COUNT, LEFT, DUE, RIGHT, RIGHT, END],
+            Shape::Begin(RankKind::Grade) => &[
+                LEFT, BEGIN, CLIENT, LEFT, GRADE, RANK, RIGHT, RIGHT, END,
+            ],
+            Shape::Begin(RankKind::Due) => &[
+                LEFT, BEGIN, CLIENT, LEFT, DUE, MINUTE, WEIGHT, RIGHT, RIGHT, END,
+            ],
+            Shape::Lock(LockKind::Read) => &[
+                LEFT, LOCK, CLIENT, LEFT, READ, ELEMENT, RIGHT, RIGHT, END,
+            ],
+            Shape::Lock(LockKind::Write) => &[
+                LEFT, LOCK, CLIENT, LEFT, WRITE, ELEMENT, RIGHT, RIGHT, END,
+            ],
+            Shape::Read => &[LEFT, READ, CLIENT, ELEMENT, RIGHT, END],
+            Shape::Change => &[LEFT, CHANGE, CLIENT, ELEMENT, VALUE, RIGHT, END],
+            Shape::Commit => &[LEFT, COMMIT, CLIENT, RIGHT, END],
+            Shape::Back => &[LEFT, BACK, CLIENT, RIGHT, END],
+            Shape::End => &[LEFT, END_WORD, CLIENT, RIGHT, END],
+            Shape::GiveUp => &[LEFT, GIVEUP, CLIENT, RIGHT, END],
+            Shape::Clear => &[LEFT, CLEAR, CLIENT, RIGHT, END],
+            Shape::Bind => &[LEFT, BIND, POINTER, ELEMENT, RIGHT, END],
+            Shape::Remove => &[LEFT, REMOVE, POINTER, RIGHT, END],
+            Shape::Get => &[LEFT, GET, POINTER, RIGHT, END],
+            Shape::Put => &[LEFT, PUT, POINTER, VALUE, RIGHT, END],
+        }
     }
-}
 
-// The rank kind that a shape belongs to, if it belongs to one.
-fn kind_of(shape: Shape) -> Option<RankKind>
-    ensures { result ≡ rank_kind shape }
-{
-    match shape {
-        Shape::OpenGrade | Shape::BeginGrade => Some(RankKind::Grade),
-        Shape::OpenDue | Shape::BeginDue => Some(RankKind::Due),
-        _ => None,
+    // The rank kind that a shape belongs to, if it belongs to one.
+    fn rank_kind(self) -> Option<RankKind>
+        ensures { result ≡ rank_kind self }
+    {
+        match self {
+            Shape::Open(kind) | Shape::Begin(kind) => Some(kind),
+            _ => None,
+        }
     }
-}
 
-// Whether a shape is allowed: after an open, one of the other rank kind is not.
-pub fn is_allowed(opened: Option<RankKind>, shape: Shape) -> bool
-    ensures { result ≡ allows opened shape }
-{
-    match (opened, kind_of(shape)) {
-        (Some(RankKind::Grade), Some(RankKind::Due)) => false,
-        (Some(RankKind::Due), Some(RankKind::Grade)) => false,
-        _ => true,
+    // Whether a shape is allowed: after an open, one of the other rank kind is not.
+    pub fn is_allowed(self, opened: Option<RankKind>) -> bool
+        ensures { result ≡ allows opened self }
+    {
+        match (opened, self.rank_kind()) {
+            (Some(opened), Some(kind)) => opened == kind,
+            _ => true,
+        }
     }
 }
 
 // All shapes.
 pub const SHAPES: [Shape; 17] = [
-    Shape::OpenGrade,
-    Shape::OpenDue,
-    Shape::BeginGrade,
-    Shape::BeginDue,
-    Shape::LockRead,
-    Shape::LockWrite,
+    Shape::Open(RankKind::Grade),
+    Shape::Open(RankKind::Due),
+    Shape::Begin(RankKind::Grade),
+    Shape::Begin(RankKind::Due),
+    Shape::Lock(LockKind::Read),
+    Shape::Lock(LockKind::Write),
     Shape::Read,
     Shape::Change,
     Shape::Commit,

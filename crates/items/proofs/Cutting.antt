@@ -1,143 +1,105 @@
--- Items cut from the front of a line.
-use Rattle.std.proofs.Common.{◌≡◌, ℕ, suc, ◌+◌, ◌-◌, ◌<◌, ◌≤◌, Bool, true, false, cond, ◌||◌, eqb, List, [], ◌∷◌, length, get_or, take, drop, ℤ, Option, sym, refl, ap, ◌∙◌, ap₂, arith}
-use Rattle.std.proofs.lemmas.List.{at_drop_more, at_drop_all, drop-drop, drop_more}
-use Rattle.std.proofs.lemmas.Bool.{cond-true, cond-false, eq-eqb, ne_eqb, or_from}
-use Rattle.items.specs.Items.{opening, closing, line_end, parts_runs, run_of, spaces_of, mark_by, run_mark, items, items_from}
+-- Items cut from the front of some bytes.
+use Rattle.std.proofs.Common.{◌≡◌, ◌≢◌, ℕ, suc, ◌+◌, ◌-◌, ◌<◌, ◌≤◌, min, Bool, true, false, cond, not, ◌||◌, eqb, List, [], ◌∷◌, length, get_or, take, drop, slice_get, ℤ, Some, Option, sym, refl, ap, ◌∙◌, arith}
+use Rattle.std.specs.List.{prefix_len}
+use Rattle.std.proofs.lemmas.List.{drop-drop, take_rest}
+use Rattle.std.proofs.lemmas.List.Folds.{length-prefix_len}
+use Rattle.std.proofs.lemmas.Bool.{cond-true, eqb-false, ne_eqb}
 use Rattle.items.specs.Numerals.{number_of}
-
-pub spaces_more : (xs : List ℕ) (i : ℕ) → i < length xs →
-    spaces_of (drop i xs) ≡ cond (eqb (get_or xs i 0) 32) (suc (spaces_of (drop (i + 1) xs))) 0
-spaces_more xs i h = at_drop_more spaces_of xs i 0 h
-
-pub spaces_end : (xs : List ℕ) (i : ℕ) → length xs ≤ i → spaces_of (drop i xs) ≡ 0
-spaces_end xs i h = at_drop_all spaces_of xs i h
-
-length_cond : (t : Bool) (b : ℕ) (bs : List ℕ) → length (cond t [] (b ∷ bs)) ≡ cond t 0 (suc (length bs))
-length_cond true b bs = refl
-length_cond false b bs = refl
-
-pub run_more : (xs : List ℕ) (i : ℕ) → i < length xs →
-    length (run_of (drop i xs)) ≡ cond (parts_runs (get_or xs i 0)) 0 (suc (length (run_of (drop (i + 1) xs))))
-run_more xs i h = at_drop_more (λ l. length (run_of l)) xs i 0 h ∙ length_cond (parts_runs (get_or xs i 0)) _ _
-
-pub run_end : (xs : List ℕ) (i : ℕ) → length xs ≤ i → length (run_of (drop i xs)) ≡ 0
-run_end xs i h = at_drop_all (λ l. length (run_of l)) xs i h
-
--- the run is the front of the bytes
-front : (t : Bool) (b : ℕ) (bs : List ℕ) → take (length (run_of bs)) bs ≡ run_of bs →
-    take (length (cond t [] (b ∷ run_of bs))) (b ∷ bs) ≡ cond t [] (b ∷ run_of bs)
-front true b bs h = refl
-front false b bs h = ap (λ l. b ∷ l) h
-
-take_run : (bs : List ℕ) → take (length (run_of bs)) bs ≡ run_of bs
-take_run [] = refl
-take_run (b ∷ bs) = front (parts_runs b) b bs (take_run bs)
-
-pub text_is_run : (line : List ℕ) (at end : ℕ) → end ≡ at + length (run_of (drop at line)) → take (end - at) (drop at line) ≡ run_of (drop at line)
-text_is_run line at end e =
-    let k : end - at ≡ length (run_of (drop at line)) = omega arith in
-    ap (λ n. take n (drop at line)) k ∙ take_run (drop at line)
+use Rattle.items.specs.Items.{opening, closing, is_in_run, run_of, spaces_of, mark_by, run_mark, items, items_from}
 
 -- a place that is written in two ways
 at_place : (w : Bool) (p q : ℕ) (bs : List ℕ) → p ≡ q → items w p bs ≡ items w q bs
 at_place w p q bs e = ap (λ x. items w x bs) e
 
+-- the same bytes, behind one more
+drop_on : (n : ℕ) (b : ℕ) (bs : List ℕ) → drop (1 + n) (b ∷ bs) ≡ drop n bs
+drop_on n b bs = let more : 1 + n ≡ suc n = omega arith in ap (λ x. drop x (b ∷ bs)) more
+
+-- what a byte does to the items, by what it is
+by_byte : (w : Bool) (p b : ℕ) (bs : List ℕ) (t u v : Bool) → eqb b 32 ≡ t → eqb b 40 ≡ u → eqb b 41 ≡ v → items w p (b ∷ bs) ≡
+    cond t (items false (p + 1) bs)
+    (cond u ((p, opening) ∷ items false (p + 1) bs)
+    (cond v ((p, closing) ∷ items false (p + 1) bs)
+    (cond w (items true (p + 1) bs) ((p, run_mark (run_of (b ∷ bs))) ∷ items true (p + 1) bs))))
+by_byte w p b bs t u v q r s = rw (← q, ← r, ← s) refl
+
 -- spaces in front are no items
 skip_by : (p b : ℕ) (bs : List ℕ) (t : Bool) → eqb b 32 ≡ t →
     items false (p + 1) bs ≡ items false (p + 1 + spaces_of bs) (drop (spaces_of bs) bs) →
-    items false p (b ∷ bs) ≡ items false (p + cond t (suc (spaces_of bs)) 0) (drop (cond t (suc (spaces_of bs)) 0) (b ∷ bs))
-skip_by p b bs true q h = cond-true (eqb b 32) _ _ q ∙ h ∙ at_place false _ _ (drop (spaces_of bs) bs) (omega arith)
+    items false p (b ∷ bs) ≡ items false (p + cond t (1 + spaces_of bs) 0) (drop (cond t (1 + spaces_of bs) 0) (b ∷ bs))
+skip_by p b bs true q h =
+    cond-true (eqb b 32) _ _ q ∙ h ∙ at_place false _ _ (drop (spaces_of bs) bs) (omega arith) ∙
+    ap (items false (p + (1 + spaces_of bs))) (sym (drop_on (spaces_of bs) b bs))
 skip_by p b bs false q h = at_place false _ _ (b ∷ bs) (omega arith)
 
-skip : (p : ℕ) (bs : List ℕ) → items false p bs ≡ items false (p + spaces_of bs) (drop (spaces_of bs) bs)
+pub skip : (p : ℕ) (bs : List ℕ) → items false p bs ≡ items false (p + spaces_of bs) (drop (spaces_of bs) bs)
 skip p [] = at_place false _ _ [] (omega arith)
 skip p (b ∷ bs) = skip_by p b bs (eqb b 32) refl (skip (p + 1) bs)
 
-pub skipped : (line : List ℕ) (from at : ℕ) → at ≡ from + spaces_of (drop from line) → items_from line from ≡ items_from line at
-skipped line from at e =
-    skip (from + 1) (drop from line) ∙ ap (items false _) (drop-drop (spaces_of (drop from line)) from line) ∙
-    ap (λ x. items false (from + 1 + spaces_of (drop from line)) (drop x line)) (sym e) ∙
-    at_place false _ _ (drop at line) (omega arith)
+-- where spaces are skipped, none stands
+stop_by : (b : ℕ) (bs : List ℕ) (t : Bool) → eqb b 32 ≡ t → slice_get (drop (spaces_of bs) bs) 0 ≢ Some 32 →
+    slice_get (drop (cond t (1 + spaces_of bs) 0) (b ∷ bs)) 0 ≢ Some 32
+stop_by b bs true q h = λ e. h (ap (λ l. slice_get l 0) (sym (drop_on (spaces_of bs) b bs)) ∙ e)
+stop_by b bs false q h = λ e. let k : b ≡ 32 = cc in let n = eqb-false b 32 q in n k
 
--- what a byte does to the items, by what it is
-module _ (w : Bool) (p b : ℕ) (bs : List ℕ) where
-  at_space : eqb b 32 ≡ true → items w p (b ∷ bs) ≡ items false (p + 1) bs
-  at_space q = cond-true (eqb b 32) _ _ q
-
-  at_open : eqb b 32 ≡ false → eqb b 40 ≡ true → items w p (b ∷ bs) ≡ (p, opening) ∷ items false (p + 1) bs
-  at_open q r = cond-false (eqb b 32) _ _ q ∙ cond-true (eqb b 40) _ _ r
-
-  at_close : eqb b 32 ≡ false → eqb b 40 ≡ false → eqb b 41 ≡ true → items w p (b ∷ bs) ≡ (p, closing) ∷ items false (p + 1) bs
-  at_close q r s = cond-false (eqb b 32) _ _ q ∙ cond-false (eqb b 40) _ _ r ∙ cond-true (eqb b 41) _ _ s
-
-  at_run : eqb b 32 ≡ false → eqb b 40 ≡ false → eqb b 41 ≡ false →
-      items w p (b ∷ bs) ≡ cond w (items true (p + 1) bs) ((p, run_mark (run_of (b ∷ bs))) ∷ items true (p + 1) bs)
-  at_run q r s = cond-false (eqb b 32) _ _ q ∙ cond-false (eqb b 40) _ _ r ∙ cond-false (eqb b 41) _ _ s
+pub stopped : (bs : List ℕ) → slice_get (drop (spaces_of bs) bs) 0 ≢ Some 32
+stopped [] = λ e. cc
+stopped (b ∷ bs) = stop_by b bs (eqb b 32) refl (stopped bs)
 
 -- behind a run's first byte its other bytes are passed over
-pass_by : (p b : ℕ) (bs : List ℕ) (t u v : Bool) → eqb b 32 ≡ t → eqb b 40 ≡ u → eqb b 41 ≡ v →
-    items true (p + 1) bs ≡ items false (p + 1 + length (run_of bs)) (drop (length (run_of bs)) bs) →
-    items true p (b ∷ bs) ≡ items false (p + length (cond (t || (u || v)) [] (b ∷ run_of bs))) (drop (length (cond (t || (u || v)) [] (b ∷ run_of bs))) (b ∷ bs))
-pass_by p b bs true u v q r s h = at_space true p b bs q ∙ sym (at_place false (p + 0) p (b ∷ bs) (omega arith) ∙ at_space false p b bs q)
-pass_by p b bs false true v q r s h = at_open true p b bs q r ∙ sym (at_place false (p + 0) p (b ∷ bs) (omega arith) ∙ at_open false p b bs q r)
-pass_by p b bs false false true q r s h = at_close true p b bs q r s ∙ sym (at_place false (p + 0) p (b ∷ bs) (omega arith) ∙ at_close false p b bs q r s)
-pass_by p b bs false false false q r s h = at_run true p b bs q r s ∙ h ∙ at_place false _ _ (drop (length (run_of bs)) bs) (omega arith)
+abbrev run_length : List ℕ → ℕ
+run_length bs = prefix_len is_in_run bs
 
-pass : (p : ℕ) (bs : List ℕ) → items true p bs ≡ items false (p + length (run_of bs)) (drop (length (run_of bs)) bs)
+pass_by : (p b : ℕ) (bs : List ℕ) (t u v : Bool) → eqb b 32 ≡ t → eqb b 40 ≡ u → eqb b 41 ≡ v →
+    items true (p + 1) bs ≡ items false (p + 1 + run_length bs) (drop (run_length bs) bs) →
+    items true p (b ∷ bs) ≡ items false (p + cond (not (t || (u || v))) (1 + run_length bs) 0) (drop (cond (not (t || (u || v))) (1 + run_length bs) 0) (b ∷ bs))
+pass_by p b bs true u v q r s h = by_byte true p b bs true u v q r s ∙ sym (at_place false (p + 0) p (b ∷ bs) (omega arith) ∙ by_byte false p b bs true u v q r s)
+pass_by p b bs false true v q r s h = by_byte true p b bs false true v q r s ∙ sym (at_place false (p + 0) p (b ∷ bs) (omega arith) ∙ by_byte false p b bs false true v q r s)
+pass_by p b bs false false true q r s h = by_byte true p b bs false false true q r s ∙ sym (at_place false (p + 0) p (b ∷ bs) (omega arith) ∙ by_byte false p b bs false false true q r s)
+pass_by p b bs false false false q r s h =
+    by_byte true p b bs false false false q r s ∙ h ∙ at_place false _ _ (drop (run_length bs) bs) (omega arith) ∙
+    ap (items false (p + (1 + run_length bs))) (sym (drop_on (run_length bs) b bs))
+
+pass : (p : ℕ) (bs : List ℕ) → items true p bs ≡ items false (p + run_length bs) (drop (run_length bs) bs)
 pass p [] = at_place false _ _ [] (omega arith)
 pass p (b ∷ bs) = pass_by p b bs (eqb b 32) (eqb b 40) (eqb b 41) refl refl refl (pass (p + 1) bs)
 
--- the first item, by the byte that it starts with
-pub first_open : (line : List ℕ) (at : ℕ) → at < length line → get_or line at 0 ≡ 40 → items_from line at ≡ (at + 1, opening) ∷ items_from line (at + 1)
-first_open line at h e =
-    ap (items false (at + 1)) (drop_more line at 0 h) ∙ at_open false (at + 1) (get_or line at 0) (drop (at + 1) line) (ne_eqb _ 32 (omega arith)) (eq-eqb _ 40 e)
+-- bytes that begin with neither space nor bracket begin with a run
+pub run_first : (p : ℕ) (bs : List ℕ) (r : Option ℤ) → 0 < length bs → slice_get bs 0 ≢ Some 32 → get_or bs 0 0 ≢ 40 → get_or bs 0 0 ≢ 41 → r ≡ number_of (run_of bs) →
+    items false p bs ≡ (p, mark_by (run_of bs) r) ∷ items false (p + length (run_of bs)) (drop (length (run_of bs)) bs)
+run_first p [] r h n o l e = absurd (omega arith)
+run_first p (b ∷ bs) r h n o l e =
+    let s = ne_eqb b 32 (λ k. n (ap Some k)) in
+    let u = ne_eqb b 40 o in
+    let v = ne_eqb b 41 l in
+    let one : run_length (b ∷ bs) ≡ 1 + run_length bs = rw (s, u, v) refl in
+    let long : length (run_of (b ∷ bs)) ≡ 1 + run_length bs = length-prefix_len is_in_run (b ∷ bs) ∙ one in
+    by_byte false p b bs false false false s u v ∙
+    ap (λ m. (p, m) ∷ items true (p + 1) bs) (ap (mark_by (run_of (b ∷ bs))) (sym e)) ∙
+    ap (λ its. (p, mark_by (run_of (b ∷ bs)) r) ∷ its)
+    (pass (p + 1) bs ∙ at_place false _ _ (drop (run_length bs) bs) (omega arith) ∙
+    ap (items false (p + length (run_of (b ∷ bs)))) (sym (drop_on (run_length bs) b bs) ∙ ap (λ x. drop x (b ∷ bs)) (sym long)))
 
-pub first_close : (line : List ℕ) (at : ℕ) → at < length line → get_or line at 0 ≡ 41 → items_from line at ≡ (at + 1, closing) ∷ items_from line (at + 1)
-first_close line at h e =
-    ap (items false (at + 1)) (drop_more line at 0 h) ∙
-    at_close false (at + 1) (get_or line at 0) (drop (at + 1) line) (ne_eqb _ 32 (omega arith)) (ne_eqb _ 40 (omega arith)) (eq-eqb _ 41 e)
+-- what is left of a line from an offset, once the spaces there are skipped
+module _ (line : List ℕ) (offset from s : ℕ) (within : from ≡ min offset (length line)) (spaces : s ≡ spaces_of (take (length line - from) (drop from line))) where
+  behind_spaces : drop (spaces_of (drop from line)) (drop from line) ≡ take (length line - (from + s)) (drop (from + s) line)
+  behind_spaces =
+      drop-drop (spaces_of (drop from line)) from line ∙ ap (λ n. drop (from + n) line) (sym (spaces ∙ ap spaces_of (take_rest line from))) ∙
+      sym (take_rest line (from + s))
 
-pub first_end : (line : List ℕ) (at : ℕ) → length line ≤ at → items_from line at ≡ (at + 1, line_end) ∷ []
-first_end line at h = at_drop_all (items false (at + 1)) line at h
+  pub no_space : slice_get (take (length line - (from + s)) (drop (from + s) line)) 0 ≢ Some 32
+  no_space = λ e. stopped (drop from line) (ap (λ l. slice_get l 0) behind_spaces ∙ e)
 
-pub first_run : (line : List ℕ) (at end : ℕ) → at < length line → (get_or line at 0 ≡ 32 → ⊥) → (get_or line at 0 ≡ 40 → ⊥) → (get_or line at 0 ≡ 41 → ⊥) →
-    end ≡ at + length (run_of (drop at line)) → items_from line at ≡ (at + 1, run_mark (run_of (drop at line))) ∷ items_from line end
-first_run line at end h q r s e =
-    let d = drop_more line at 0 h in
-    let n = ne_eqb _ 32 q in
-    let o = ne_eqb _ 40 r in
-    let l = ne_eqb _ 41 s in
-    let more : length (run_of (drop at line)) ≡ suc (length (run_of (drop (at + 1) line))) =
-    run_more line at h ∙ cond-false _ _ _ (or_from _ _ n (or_from _ _ o l)) in
-    let same : end ≡ at + 1 + length (run_of (drop (at + 1) line)) = omega arith in
-    ap (items false (at + 1)) d ∙ at_run false (at + 1) (get_or line at 0) (drop (at + 1) line) n o l ∙
-    ap₂ ◌∷◌ (ap (λ x. (at + 1, run_mark (run_of x))) (sym d))
-    (pass (at + 1 + 1) (drop (at + 1) line) ∙ ap (items false _) (drop-drop (length (run_of (drop (at + 1) line))) (at + 1) line) ∙
-    ap (λ x. items false (at + 1 + 1 + length (run_of (drop (at + 1) line))) (drop x line)) (sym same) ∙ at_place false _ _ (drop end line) (omega arith))
+  pub skipped : items_from line offset ≡ items false (from + s + 1) (take (length line - (from + s)) (drop (from + s) line))
+  skipped =
+      ap (λ n. items false (n + 1) (drop n line)) (sym within) ∙ skip (from + 1) (drop from line) ∙
+      ap (items false (from + 1 + spaces_of (drop from line))) behind_spaces ∙
+      at_place false _ _ (take (length line - (from + s)) (drop (from + s) line)) (omega (arith, spaces ∙ ap spaces_of (take_rest line from)))
 
--- where spaces are skipped, none stands
-stop_by : (bs : List ℕ) → spaces_of (drop (spaces_of bs) bs) ≡ 0
-stop_by [] = refl
-stop_by (b ∷ bs) = go (eqb b 32) refl (stop_by bs)
-  where
-    go : (t : Bool) → eqb b 32 ≡ t → spaces_of (drop (spaces_of bs) bs) ≡ 0 → spaces_of (drop (cond t (suc (spaces_of bs)) 0) (b ∷ bs)) ≡ 0
-    go true q h = h
-    go false q h = cond-false (eqb b 32) _ _ q
-
-pub stopped : (line : List ℕ) (from at : ℕ) → at ≡ from + spaces_of (drop from line) → at < length line → get_or line at 0 ≡ 32 → ⊥
-stopped line from at e h q =
-    let a = stop_by (drop from line) in
-    let b = ap spaces_of (drop-drop (spaces_of (drop from line)) from line) in
-    let d : spaces_of (drop (from + spaces_of (drop from line)) line) ≡ spaces_of (drop at line) = ap (λ x. spaces_of (drop x line)) (sym e) in
-    let f = spaces_more line at h ∙ cond-true _ _ _ (eq-eqb _ 32 q) in
-    omega arith
-
--- a run behind spaces, as the number reader judges it
-pub run_cut : (line : List ℕ) (from at end : ℕ) (r : Option ℤ) → at ≡ from + spaces_of (drop from line) → at < length line →
-    (get_or line at 0 ≡ 40 → ⊥) → (get_or line at 0 ≡ 41 → ⊥) → end ≡ at + length (run_of (drop at line)) →
-    r ≡ number_of (take (end - at) (drop at line)) →
-    items_from line from ≡ (at + 1, mark_by (take (end - at) (drop at line)) r) ∷ items_from line end
-run_cut line from at end r e h o l f n =
-    let t = text_is_run line at end f in
-    skipped line from at e ∙ first_run line at end h (stopped line from at e h) o l f ∙
-    ap (λ m. (at + 1, m) ∷ items_from line end) (ap run_mark (sym t) ∙ ap (mark_by (take (end - at) (drop at line))) (sym n))
+-- what is left behind an item
+pub left_behind : (line : List ℕ) (at long n : ℕ) → n ≡ long → at + long ≤ length line →
+    items false (at + 1 + long) (drop long (take (length line - at) (drop at line))) ≡ items_from line (at + n)
+left_behind line at long n e h =
+    let within : min (at + n) (length line) ≡ at + long = omega arith in
+    ap (λ l. items false (at + 1 + long) (drop long l)) (take_rest line at) ∙ ap (items false (at + 1 + long)) (drop-drop long at line) ∙
+    at_place false _ _ (drop (at + long) line) (omega arith) ∙ ap (λ m. items false (m + 1) (drop m line)) (sym within)

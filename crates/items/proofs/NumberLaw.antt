@@ -1,9 +1,10 @@
 -- A text is a number exactly if the scan finds one, and then it is that one.
-use Rattle.std.proofs.Common.{◌≡◌, ℕ, ◌+◌, ◌-◌, ◌*◌, ◌≤◌, Bool, true, false, cond, eqb, leb, List, [], ◌∷◌, ◌++◌, length, ℤ, pos, neg_ℤ, Some, None, Option, sym, refl, ap, ◌∙◌, arith, MatchOption}
+use Rattle.std.proofs.Common.{◌≡◌, ℕ, ◌+◌, ◌-◌, ◌*◌, ◌≤◌, Bool, true, false, cond, eqb, List, [], ◌∷◌, ◌++◌, length, ℤ, pos, neg_ℤ, Some, None, Option, append-nil, sym, refl, ap, ◌∙◌, subst, arith, MatchOption}
 use Rattle.std.specs.Option.{option_map}
-use Rattle.std.proofs.lemmas.Bool.{cond-true, cond-false, ne_eqb, eqb-true, eqb-false, and_parts, leb-true}
-use Rattle.std.proofs.lemmas.List.{nil_from_length}
-use Rattle.items.specs.Numerals.{is_digit, AllDigits, worth, sign_text, kilo_text, in_thousands, with_sign, Numeral, scan, number_of}
+use Rattle.std.proofs.lemmas.Bool.{cond-true, cond-false, ne_eqb, eqb-true, eqb-false}
+use Rattle.std.proofs.lemmas.List.{nil_from_length, append_cancel_right}
+use Rattle.items.proofs.Digits.{in_digits}
+use Rattle.items.specs.Numerals.{is_digit, AllDigits, OneToTenDigits, worth, sign_text, kilo_text, in_thousands, with_sign, Numeral, scan, number_of}
 
 -- what a scan that finds m has met
 record Scanned (n v : ℕ) (w : List ℕ) (m : ℕ) : Type 0 where
@@ -84,6 +85,39 @@ scan_complete n v (d ∷ ds) k a s f =
     cond-true (is_digit d) _ _ a.0 ∙ cond-false (eqb n 10) _ _ (ne_eqb n 10 (omega arith)) ∙
     scan_complete (n + 1) (10 * v + (d - 48)) ds k a.1 (omega arith) (omega arith)
 
+pub size_complete : (ds : List ℕ) (k : Bool) → OneToTenDigits ds → scan 0 0 (ds ++ kilo_text k) ≡ Some (in_thousands k (worth 0 ds))
+size_complete ds k d = scan_complete 0 0 ds k d.only (omega (arith, d.some)) (omega (arith, d.few))
+
+-- a k is no digit
+no_kilo : (ds : List ℕ) → AllDigits (ds ++ 107 ∷ []) → ⊥
+no_kilo [] a = let z : ◌≡◌ {A = Bool} false true = a.0 in cc
+no_kilo (d ∷ ds) a = no_kilo ds a.1
+
+-- digits, and a k or none, are spelled in one way
+spelled_once : (xs ys : List ℕ) (j k : Bool) → AllDigits xs → (k ≡ false → (zs : List ℕ) → ys ≡ zs ++ 107 ∷ [] → ⊥) →
+    xs ++ kilo_text j ≡ ys ++ kilo_text k → xs ≡ ys
+spelled_once xs ys true true a f e = append_cancel_right xs ys (107 ∷ []) e
+spelled_once xs ys true false a f e = absurd (f refl xs (sym (e ∙ append-nil ys)))
+spelled_once xs ys false true a f e = absurd (no_kilo ys (subst AllDigits (sym (append-nil xs) ∙ e) a))
+spelled_once xs ys false false a f e = sym (append-nil xs) ∙ e ∙ append-nil ys
+
+-- what is not one to ten digits, and a k or none, is no size
+pub size_none : (ds : List ℕ) (k : Bool) → (k ≡ false → (zs : List ℕ) → ds ≡ zs ++ 107 ∷ [] → ⊥) → (OneToTenDigits ds → ⊥) → None ≡ scan 0 0 (ds ++ kilo_text k)
+size_none ds k f unlike = by (scan 0 0 (ds ++ kilo_text k)) refl
+  where
+    by : (r : Option ℕ) → scan 0 0 (ds ++ kilo_text k) ≡ r → None ≡ r
+    by None e = refl
+    by (Some m) e =
+        let s = scan_sound 0 0 (ds ++ kilo_text k) m (omega arith) e in
+        let same = spelled_once s.digits ds s.kilo k s.only f (sym s.spelled) in
+        absurd (unlike (subst OneToTenDigits same (record { only = s.only; some = omega (arith, s.some); few = omega (arith, s.few) })))
+
+-- a text that ends in no k is a size exactly if it is one to ten digits
+pub plain_law : (text : List ℕ) (r : Option ℕ) → ((zs : List ℕ) → text ≡ zs ++ 107 ∷ [] → ⊥) →
+    MatchOption r (OneToTenDigits text → ⊥) (λ n. OneToTenDigits text × (n ≡ worth 0 text)) → r ≡ scan 0 0 text
+plain_law text None f v = size_none text false (λ e. f) v ∙ ap (scan 0 0) (append-nil text)
+plain_law text (Some n) f v = ap Some v.1 ∙ sym (size_complete text false v.0) ∙ ap (scan 0 0) (append-nil text)
+
 taken_apart : (f : ℕ → ℤ) (r : Option ℕ) (z : ℤ) → option_map f r ≡ Some z → (m : ℕ) × (r ≡ Some m) × (z ≡ f m)
 taken_apart f None z e = no_some _ z e
 taken_apart f (Some m) z e = (m, refl, cc)
@@ -98,9 +132,7 @@ by_minus b bs z true q e =
       digits = s.digits;
       kilo = s.kilo;
       spelled = ap (λ x. x ∷ bs) (eqb-true b 45 q) ∙ ap (λ x. 45 ∷ x) s.spelled;
-      only = s.only;
-      some = omega (arith, s.some);
-      few = omega (arith, s.few);
+      plain = record { only = s.only; some = omega (arith, s.some); few = omega (arith, s.few) };
       value = p.2 ∙ ap (λ n. neg_ℤ (pos n)) s.value;
     }
 by_minus b bs z false q e =
@@ -111,9 +143,7 @@ by_minus b bs z false q e =
       digits = s.digits;
       kilo = s.kilo;
       spelled = s.spelled;
-      only = s.only;
-      some = omega (arith, s.some);
-      few = omega (arith, s.few);
+      plain = record { only = s.only; some = omega (arith, s.some); few = omega (arith, s.few) };
       value = p.2 ∙ ap pos s.value;
     }
 
@@ -121,17 +151,16 @@ pub number_sound : (w : List ℕ) (z : ℤ) → number_of w ≡ Some z → Numer
 number_sound [] z e = no_some _ z e
 number_sound (b ∷ bs) z e = by_minus b bs z (eqb b 45) refl e
 
-spelled_complete : (m : Bool) (ds : List ℕ) (k : Bool) → AllDigits ds → 1 ≤ length ds → length ds ≤ 10 →
+spelled_complete : (m : Bool) (ds : List ℕ) (k : Bool) → OneToTenDigits ds →
     number_of (sign_text m ++ (ds ++ kilo_text k)) ≡ Some (with_sign m (in_thousands k (worth 0 ds)))
-spelled_complete true ds k a s f = ap (option_map (λ n. neg_ℤ (pos n))) (scan_complete 0 0 ds k a (omega arith) (omega arith))
-spelled_complete false [] k a s f = absurd (omega arith)
-spelled_complete false (d ∷ ds) k a s f =
-    let p = and_parts (leb 48 d) (leb d 57) a.0 in
-    cond-false (eqb d 45) _ _ (ne_eqb d 45 (omega (arith, leb-true 48 d p.0))) ∙
-    ap (option_map pos) (scan_complete 0 0 (d ∷ ds) k a (omega arith) (omega arith))
+spelled_complete true ds k d = ap (option_map (λ n. neg_ℤ (pos n))) (size_complete ds k d)
+spelled_complete false [] k d = absurd (omega (arith, d.some))
+spelled_complete false (b ∷ ds) k d =
+    let low = in_digits b d.only.0 in
+    cond-false (eqb b 45) _ _ (ne_eqb b 45 (omega arith)) ∙ ap (option_map pos) (size_complete (b ∷ ds) k d)
 
 pub number_complete : (w : List ℕ) (z : ℤ) → Numeral w z → number_of w ≡ Some z
-number_complete w z s = ap number_of s.spelled ∙ spelled_complete s.minus s.digits s.kilo s.only s.some s.few ∙ ap Some (sym s.value)
+number_complete w z s = ap number_of s.spelled ∙ spelled_complete s.minus s.digits s.kilo s.plain ∙ ap Some (sym s.value)
 
 -- both, as the reader promises them
 pub number_means : (w : List ℕ) (r : Option ℤ) → r ≡ number_of w → MatchOption r ((z : ℤ) → Numeral w z → ⊥) (λ z. Numeral w z)

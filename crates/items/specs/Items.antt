@@ -1,7 +1,10 @@
 -- The items of a script line.
-use Rattle.std.specs.Prelude.{◌≡◌, ℕ, suc, ◌+◌, ◌-◌, Bool, true, false, cond, ◌||◌, List, [], ◌∷◌, length, drop, ℤ, Some, None, Option, ◌==◌}
+use Rattle.std.specs.Prelude.{◌≡◌, ℕ, ◌+◌, ◌-◌, min, Bool, true, false, cond, not, ◌||◌, List, [], ◌∷◌, length, drop, take_while, ℤ, Some, None, Option, ◌==◌}
+use Rattle.std.specs.List.{prefix_len}
 use Rattle.items.specs.Numerals.{number_of, Numeral}
+use Rattle.items.specs.declared.cutter.Kind.{Kind}
 use Rattle.items.specs.declared.cutter.Item.{Item}
+use Rattle.items.specs.declared.cutter.Cutter.{Cutter}
 
 -- What can stand at a place of a line: a bracket, a word, a number, or the line's end.
 pub data Mark : Type 0 where
@@ -11,19 +14,17 @@ pub data Mark : Type 0 where
   number : ℤ → Mark
   line_end : Mark
 
--- The bytes that belong to no run: the space and the brackets.
-abbrev pub parts_runs : ℕ → Bool
-parts_runs b = b == 32 || (b == 40 || b == 41)
+-- Whether a byte belongs to a run: each does but the space and the brackets.
+abbrev pub is_in_run : ℕ → Bool
+is_in_run b = not (b == 32 || (b == 40 || b == 41))
 
 -- The longest run at the front of some bytes.
 abbrev pub run_of : List ℕ → List ℕ
-run_of [] = []
-run_of (b ∷ bs) = cond (parts_runs b) [] (b ∷ run_of bs)
+run_of bytes = take_while is_in_run bytes
 
 -- How many spaces stand at the front of some bytes.
 abbrev pub spaces_of : List ℕ → ℕ
-spaces_of [] = 0
-spaces_of (b ∷ bs) = cond (b == 32) (suc (spaces_of bs)) 0
+spaces_of bytes = prefix_len (λ b. b == 32) bytes
 
 -- A run is a number if it can be, else a word.
 abbrev pub mark_by : List ℕ → Option ℤ → Mark
@@ -45,17 +46,10 @@ items within place (b ∷ bs) =
     (cond (b == 41) ((place, closing) ∷ items false (place + 1) bs)
     (cond within (items true (place + 1) bs) ((place, run_mark (run_of (b ∷ bs))) ∷ items true (place + 1) bs))))
 
--- What is left of a line from an offset, as items.
-abbrev pub items_from : List ℕ → ℕ → List (ℕ × Mark)
-items_from line at = items false (at + 1) (drop at line)
-
 -- Whether a mark is the line's end.
 abbrev pub is_end : Mark → Bool
-is_end opening = false
-is_end closing = false
-is_end (word t) = false
-is_end (number z) = false
 is_end line_end = true
+is_end _ = false
 
 -- The items behind the first one; at the line's end one stays there.
 abbrev pub behind : List (ℕ × Mark) → List (ℕ × Mark)
@@ -64,32 +58,43 @@ behind (it ∷ its) = cond (is_end it.1) (it ∷ its) its
 
 -- What stands behind the first item; nothing stands behind the line's end.
 abbrev pub after_item : Mark → List (ℕ × Mark) → List (ℕ × Mark)
-after_item opening rest = rest
-after_item closing rest = rest
-after_item (word text) rest = rest
-after_item (number z) rest = rest
 after_item line_end rest = []
+after_item _ rest = rest
+
+-- What a kind of the code stands for.
+abbrev pub mark_of : Kind → Mark
+mark_of Kind.Open = opening
+mark_of Kind.Close = closing
+mark_of (Kind.Word text) = word text.now
+mark_of (Kind.Number text z) = number z
+mark_of Kind.End = line_end
 
 -- The place and the mark that an item of the code stands for.
 abbrev pub seen : Item → ℕ × Mark
-seen (Item.Open p) = (p, opening)
-seen (Item.Close p) = (p, closing)
-seen (Item.Word text p) = (p, word text.now)
-seen (Item.Number text z p) = (p, number z)
-seen (Item.End p) = (p, line_end)
+seen item = (item.place, mark_of item.kind)
 
--- The offset behind an item: that of its last byte, and one more. The line's end has no byte.
+-- How many bytes an item has. The line's end has none.
+abbrev pub length_of : Kind → ℕ
+length_of Kind.Open = 1
+length_of Kind.Close = 1
+length_of (Kind.Word text) = length text.now
+length_of (Kind.Number text z) = length text.now
+length_of Kind.End = 0
+
+-- The offset behind an item: that of its first byte, and as many more as it has bytes.
 abbrev pub end_of : Item → ℕ
-end_of (Item.Open p) = p
-end_of (Item.Close p) = p
-end_of (Item.Word text p) = p - 1 + length text.now
-end_of (Item.Number text z p) = p - 1 + length text.now
-end_of (Item.End p) = p - 1
+end_of item = item.place - 1 + length_of item.kind
 
--- A word or a number borrows the run at its place, and a number is the one that the run spells.
-abbrev pub CutFrom : List ℕ → Item → Type 0
-CutFrom line (Item.Open p) = Unit {0}
-CutFrom line (Item.Close p) = Unit {0}
-CutFrom line (Item.Word text p) = text.now ≡ run_of (drop (p - 1) line)
-CutFrom line (Item.Number text z p) = (text.now ≡ run_of (drop (p - 1) line)) × Numeral text.now z
-CutFrom line (Item.End p) = Unit {0}
+-- A word or a number borrows the run at the front of the bytes, and a number is the one that the run spells.
+abbrev pub IsCutFrom : List ℕ → Kind → Type 0
+IsCutFrom bytes (Kind.Word text) = text.now ≡ run_of bytes
+IsCutFrom bytes (Kind.Number text z) = (text.now ≡ run_of bytes) × Numeral text.now z
+IsCutFrom bytes _ = Unit {0}
+
+-- What is left of a line from an offset, as items. An offset behind the line's end counts as its end.
+abbrev pub items_from : List ℕ → ℕ → List (ℕ × Mark)
+items_from line offset = let at = min offset (length line) in items false (at + 1) (drop at line)
+
+-- The items that a cutter has left.
+abbrev pub left : Cutter → List (ℕ × Mark)
+left cutter = items_from cutter.line.now cutter.offset

@@ -11,6 +11,12 @@ abbrev pub AllDigits : List ℕ → Type 0
 AllDigits [] = Unit {0}
 AllDigits (b ∷ bs) = (is_digit b ≡ true) × AllDigits bs
 
+-- A text is one to ten digits.
+pub record OneToTenDigits (text : List ℕ) : Type 0 where
+  pub only : AllDigits text
+  pub some : 1 ≤ length text
+  pub few : length text ≤ 10
+
 -- What digits are worth behind others that are worth v.
 abbrev pub worth : ℕ → List ℕ → ℕ
 worth v [] = v
@@ -43,9 +49,7 @@ pub record Numeral (text : List ℕ) (number : ℤ) : Type 0 where
   pub digits : List ℕ
   pub kilo : Bool
   pub spelled : text ≡ sign_text minus ++ (digits ++ kilo_text kilo)
-  pub only : AllDigits digits
-  pub some : 1 ≤ length digits
-  pub few : length digits ≤ 10
+  pub plain : OneToTenDigits digits
   pub value : number ≡ with_sign minus (in_thousands kilo (worth 0 digits))
 
 -- The size that is written by n digits worth v, the rest of the digits, and a k or none.

@@ -1,82 +1,108 @@
 // A line cut into items, one at a time; the items borrow the line.
-ghost use Rattle.std.specs.Prelude.{◌≡◌, ◌+◌, ◌^◌, ◌<◌, ◌≤◌, min, not, ◌∷◌, length, drop};
-ghost use Rattle.items.specs.Items.{run_of, spaces_of, parts_runs, items_from, after_item, behind, seen, end_of, CutFrom};
+ghost use Rattle.std.specs.Prelude.{◌≡◌, ℕ, ◌+◌, ◌-◌, ◌≤◌, ◌≢◌, false, ◌∷◌, length, drop, slice_get, Some};
+ghost use Rattle.items.specs.Items.{is_in_run, run_of, spaces_of, items, after_item, behind, mark_of, seen, length_of, end_of, IsCutFrom, left};
 
 use super::numbers::read_number;
 
-// An item, or the line's end, beside the place of its first byte, counted from 1.
+// What stands at a place of a line: a bracket, a word, a number with the text that spells it, or the line's end.
 #[derive(Clone, Copy)]
-pub enum Item<'a> {
-    Open(usize),
-    Close(usize),
-    Word(&'a [u8], usize),
-    Number(&'a [u8], i64, usize),
-    End(usize),
+pub enum Kind<'a> {
+    Open,
+    Close,
+    Word(&'a [u8]),
+    Number(&'a [u8], i64),
+    End,
 }
 
-// The place of the byte at an offset, counted from 1.
-fn place_at(offset: usize) -> usize
-    requires { offset < 2 ^ 63 }
-    ensures { result ≡ offset + 1 }
-{
-    offset + 1
+// An item, or the line's end, and the place of its first byte, counted from 1.
+#[derive(Clone, Copy)]
+pub struct Item<'a> {
+    pub place: usize,
+    pub kind: Kind<'a>,
 }
 
-// The offset of the first byte at or behind `from` that is no space.
-fn skip_spaces(line: &[u8], from: usize) -> usize
-    requires { from ≤ length line.now }
-    ensures value { result ≡ from + spaces_of (drop from line.now) }
-    ensures within { result ≤ length line.now }
-{
-    let mut at = from;
-    while at < line.len() && line[at] == b' ' {
-        at += 1;
-    }
-    at
+// A line, and the offset up to which it is cut.
+#[derive(Clone, Copy)]
+pub struct Cutter<'a> {
+    pub line: &'a [u8],
+    pub offset: usize,
 }
 
 // Whether a byte belongs to a run.
-fn runs_on(b: u8) -> bool
-    ensures { result ≡ not (parts_runs b) }
+fn is_in_run(b: u8) -> bool
+    ensures { result ≡ is_in_run b }
 {
-    b != b' ' && b != b'(' && b != b')'
+    !matches!(b, b' ' | b'(' | b')')
 }
 
-// The offset behind the run that starts at `from`.
-fn run_end(line: &[u8], from: usize) -> usize
-    requires { from ≤ length line.now }
-    ensures value { result ≡ from + length (run_of (drop from line.now)) }
-    ensures within { result ≤ length line.now }
+// How many spaces stand at the front of some bytes.
+fn spaces_of(bytes: &[u8]) -> usize
+    ensures value { result ≡ spaces_of bytes.now }
+    ensures within { result ≤ length bytes.now }
 {
-    let mut at = from;
-    while at < line.len() && runs_on(line[at]) {
-        at += 1;
-    }
-    at
+    bytes.iter().take_while(|b| **b == b' ').count()
 }
 
-// The first item at or behind the offset `from`, and the offset behind it.
-pub fn next_item(line: &[u8], from: usize) -> (Item<'_>, usize)
-    ensures first { items_from line.now (min from (length line.now)) ≡ seen result.0 ∷ after_item (seen result.0).1 (items_from line.now result.1) }
-    ensures on { behind (items_from line.now (min from (length line.now))) ≡ items_from line.now result.1 }
-    ensures cut { CutFrom line.now result.0 }
-    ensures next { result.1 ≡ end_of result.0 }
-    ensures within { result.1 ≤ length line.now }
+// The run at the front of some bytes.
+fn run_of(bytes: &[u8]) -> &[u8]
+    ensures { result.now ≡ run_of bytes.now }
 {
-    let at = skip_spaces(line, from.min(line.len()));
-    if at == line.len() {
-        return (Item::End(place_at(at)), at);
-    }
-    match line[at] {
-        b'(' => (Item::Open(place_at(at)), at + 1),
-        b')' => (Item::Close(place_at(at)), at + 1),
+    &bytes[..bytes.iter().take_while(|b| is_in_run(**b)).count()]
+}
+
+// What stands at the front of some bytes, where that is no space.
+fn front_of(bytes: &[u8]) -> Kind<'_>
+    requires { slice_get bytes.now 0 ≢ Some 32 }
+    ensures first { (p : ℕ) → items false p bytes.now ≡ (p, mark_of result) ∷ after_item (mark_of result) (items false (p + length_of result) (drop (length_of result) bytes.now)) }
+    ensures on { (p : ℕ) → behind (items false p bytes.now) ≡ items false (p + length_of result) (drop (length_of result) bytes.now) }
+    ensures cut { IsCutFrom bytes.now result }
+    ensures within { length_of result ≤ length bytes.now }
+{
+    match bytes {
+        [] => Kind::End,
+        [b'(', ..] => Kind::Open,
+        [b')', ..] => Kind::Close,
         _ => {
-            let end = run_end(line, at);
-            let text = &line[at..end];
+            let text = run_of(bytes);
             match read_number(text) {
-                Some(value) => (Item::Number(text, value, place_at(at)), end),
-                None => (Item::Word(text, place_at(at)), end),
+                Some(value) => Kind::Number(text, value),
+                None => Kind::Word(text),
             }
+        }
+    }
+}
+
+impl Kind<'_> {
+    // How many bytes the item has.
+    fn length(self) -> usize
+        ensures { result ≡ length_of self.entry }
+    {
+        match self {
+            Kind::Open | Kind::Close => 1,
+            Kind::Word(text) | Kind::Number(text, _) => text.len(),
+            Kind::End => 0,
+        }
+    }
+}
+
+impl<'a> Cutter<'a> {
+    // The next item of the line; behind the last one the line's end comes, and comes again.
+    pub fn next_item(&mut self) -> Item<'a>
+        ensures first { left self.old ≡ seen result ∷ after_item (mark_of result.kind) (left self.new) }
+        ensures on { behind (left self.old) ≡ left self.new }
+        ensures cut { IsCutFrom (drop (result.place - 1) self.old.line.now) result.kind }
+        ensures same_line { self.new.line ≡ self.old.line }
+        ensures next { self.new.offset ≡ end_of result }
+        ensures within { self.new.offset ≤ length self.old.line.now }
+    {
+        let line = self.line;
+        let from = self.offset.min(line.len());
+        let start = from + spaces_of(&line[from..]);
+        let kind = front_of(&line[start..]);
+        self.offset = start + kind.length();
+        Item {
+            place: start + 1,
+            kind,
         }
     }
 }

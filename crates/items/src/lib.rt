@@ -4,5 +4,5 @@
 mod cutter;
 mod numbers;
 
-pub use cutter::{Item, next_item};
+pub use cutter::{Cutter, Item, Kind};
 pub use numbers::read_number;

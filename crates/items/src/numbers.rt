@@ -1,48 +1,45 @@
 // The numbers of a script line.
-ghost use Rattle.std.specs.Prelude.{◌≡◌, ◌*◌, ◌^◌, ◌<◌, ◌≤◌, ℤ, IfSome, MatchOption, ◌==◌};
-ghost use Rattle.items.specs.Numerals.{scan, number_of, Numeral};
+ghost use Rattle.std.specs.Prelude.{◌≡◌, ◌^◌, ◌<◌, ◌≤◌, ◌↔◌, ℤ, IsTrue, IfSome, MatchOption};
+ghost use Rattle.items.specs.Numerals.{OneToTenDigits, worth, scan, number_of, Numeral};
 
-// Whether a number can take no further digit.
-fn is_full(count: u8) -> bool
-    ensures { result ≡ (count == 10) }
+// As many digits as a number may have.
+const MOST_DIGITS: usize = 10;
+
+// What digits are worth.
+fn worth_of(digits: &[u8]) -> u64
+    requires { OneToTenDigits digits.now }
+    ensures value { result ≡ worth 0 digits.now }
+    ensures bound { result < 10 ^ 10 }
 {
-    count == 10
+    digits
+        .iter()
+        .fold(0, |worth, digit| 10 * worth + u64::from(digit - b'0'))
 }
 
-// What a k behind the digits makes of them.
-fn thousands(value: u64) -> u64
-    requires { value < 10 ^ 10 }
-    ensures { result ≡ 1000 * value }
+// Whether a text is one to ten digits.
+fn is_plain(text: &[u8]) -> bool
+    ensures { IsTrue result ↔ OneToTenDigits text.now }
 {
-    1000 * value
+    (1..=MOST_DIGITS).contains(&text.len()) && text.iter().all(u8::is_ascii_digit)
 }
 
-// The digits, with a k behind them or not, as a size; `None` where the text is no such thing.
+// What one to ten digits are worth, or `None` where the text is something else.
+fn plain_size(text: &[u8]) -> Option<u64>
+    ensures value { MatchOption result (OneToTenDigits text.now → ⊥) (λ size. OneToTenDigits text.now × (size ≡ worth 0 text.now)) }
+    ensures bound { IfSome result (λ size. size < 10 ^ 10) }
+{
+    is_plain(text).then(|| worth_of(text))
+}
+
+// The size that digits write, in thousands with a k behind them; `None` where the text is no such thing.
 fn magnitude(text: &[u8]) -> Option<u64>
     ensures value { result ≡ scan 0 0 text.now }
-    ensures bound { IfSome result (λ n. n ≤ 9_999_999_999_000) }
+    ensures bound { IfSome result (λ size. size ≤ 9_999_999_999_000) }
 {
-    let mut count = 0u8;
-    let mut value = 0u64;
-    for i in 0..text.len() {
-        match text[i] as char {
-            '0'..='9' => {
-                if is_full(count) {
-                    return None;
-                }
-                count += 1;
-                value = 10 * value + (text[i] - b'0') as u64;
-            }
-            'k' => {
-                if count == 0 || i + 1 < text.len() {
-                    return None;
-                }
-                return Some(thousands(value));
-            }
-            _ => return None,
-        }
+    match text {
+        [digits @ .., b'k'] => Some(1000 * plain_size(digits)?),
+        _ => plain_size(text),
     }
-    if count == 0 { None } else { Some(value) }
 }
 
 // The number that a text is, or `None` where it is none.
@@ -50,17 +47,8 @@ pub fn read_number(text: &[u8]) -> Option<i64>
     ensures value { result ≡ number_of text.now }
     ensures means { MatchOption result ((z : ℤ) → Numeral text.now z → ⊥) (λ z. Numeral text.now z) }
 {
-    if text.len() == 0 {
-        return None;
-    }
-    match text[0] as char {
-        '-' => match magnitude(&text[1..]) {
-            Some(size) => Some(-(size as i64)),
-            None => None,
-        },
-        _ => match magnitude(text) {
-            Some(size) => Some(size as i64),
-            None => None,
-        },
+    match text {
+        [b'-', size @ ..] => magnitude(size).map(|size| -(size as i64)),
+        _ => magnitude(text).map(|size| size as i64),
     }
 }

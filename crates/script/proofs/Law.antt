@@ -1,29 +1,30 @@
 -- A line reads as what the reader answers, and as nothing else.
-use Rattle.std.proofs.Common.{◌≡◌, ℕ, zero, suc, ◌+◌, ◌<◌, ◌≤◌, max, Bool, true, false, cond, not, ◌&&◌, ◌||◌, eqb, ◌⊎◌, List, [], ◌∷◌, length, get_or, Some, None, Ok, Err, Option, Result, sym, refl, ap, ◌∙◌, subst, inl, inr, ⊎_elim, arith}
+use Rattle.std.proofs.Common.{◌≡◌, ℕ, zero, suc, ◌+◌, ◌<◌, ◌≤◌, max, Bool, true, false, cond, not, ◌&&◌, ◌||◌, eqb, ltb, ◌⊎◌, List, [], ◌∷◌, length, get_or, Some, None, Ok, Err, Option, Result, sym, refl, ap, ◌∙◌, subst, inl, inr, ⊎_elim, arith}
 use Rattle.std.specs.Str.{bytes_eq}
-use Rattle.std.proofs.lemmas.Bool.{eqb-true, and_parts, and_from, cases_order}
+use Rattle.std.proofs.lemmas.Bool.{eqb-true, and_parts, and_from, cases_order, ltb-true, ltb-false}
 use Rattle.plant.specs.declared.refusals.Refusal.{Refusal}
 use Rattle.items.specs.Items.{Mark}
 use Rattle.forms.specs.Shapes.{spell, parts_of, shapes, allows}
 use Rattle.forms.specs.Forms.{blank, form_of}
-use Rattle.script.specs.Reading.{Fit, fits_open, fits_close, fits_word, fits_number, fits_end, Fits, numbers_of, line_items, marks, Spells, Sticks, in_turn, too_long, no_form, out_of_turn, reads, OneReading}
-use Rattle.script.specs.Steps.{fits, walk_of, search_on, search_of}
+use Rattle.script.specs.Reading.{Fit, fits_open, fits_close, fits_word, fits_number, fits_end, Fits, numbers_of, line_items, marks, Spells, Sticks, in_turn, too_long, no_form, out_of_turn, reads, Reads, OneReading}
+use Rattle.script.specs.Steps.{fits, walk_of, search_on, search_of, judged, reading_of}
 use Rattle.forms.specs.declared.shapes.RankKind.{RankKind}
 use Rattle.forms.specs.declared.shapes.Part.{Part}
+use Rattle.rules.specs.declared.LockKind.{LockKind}
 use Rattle.forms.specs.declared.shapes.Shape.{Shape}
 use Rattle.forms.specs.declared.makers.Form.{Form}
 use Rattle.forms.specs.declared.makers.Numbers.{Numbers}
-use Rattle.script.specs.declared.reader.Walk.{Walk}
+use Rattle.script.specs.declared.reader.Fault.{Fault}
 use Rattle.script.proofs.Walks.{never, fit_to, items_good, shape_ends, whole_law, stops_law, Stopped, begins_fewer, fits_begin}
 
 -- the number of a shape in the list of all
 abbrev index : Shape → ℕ
-index Shape.OpenGrade = 0
-index Shape.OpenDue = 1
-index Shape.BeginGrade = 2
-index Shape.BeginDue = 3
-index Shape.LockRead = 4
-index Shape.LockWrite = 5
+index (Shape.Open RankKind.Grade) = 0
+index (Shape.Open RankKind.Due) = 1
+index (Shape.Begin RankKind.Grade) = 2
+index (Shape.Begin RankKind.Due) = 3
+index (Shape.Lock LockKind.Read) = 4
+index (Shape.Lock LockKind.Write) = 5
 index Shape.Read = 6
 index Shape.Change = 7
 index Shape.Commit = 8
@@ -36,13 +37,13 @@ index Shape.Remove = 14
 index Shape.Get = 15
 index Shape.Put = 16
 
-at_index : (s : Shape) → get_or shapes (index s) Shape.OpenGrade ≡ s
-at_index Shape.OpenGrade = refl
-at_index Shape.OpenDue = refl
-at_index Shape.BeginGrade = refl
-at_index Shape.BeginDue = refl
-at_index Shape.LockRead = refl
-at_index Shape.LockWrite = refl
+at_index : (s : Shape) → get_or shapes (index s) (Shape.Open RankKind.Grade) ≡ s
+at_index (Shape.Open RankKind.Grade) = refl
+at_index (Shape.Open RankKind.Due) = refl
+at_index (Shape.Begin RankKind.Grade) = refl
+at_index (Shape.Begin RankKind.Due) = refl
+at_index (Shape.Lock LockKind.Read) = refl
+at_index (Shape.Lock LockKind.Write) = refl
 at_index Shape.Read = refl
 at_index Shape.Change = refl
 at_index Shape.Commit = refl
@@ -59,18 +60,18 @@ abbrev Member : Shape → List Shape → Type 0
 Member s [] = ⊥
 Member s (x ∷ xs) = (s ≡ x) ⊎ Member s xs
 
-member_at : (xs : List Shape) (i : ℕ) (s : Shape) → i < length xs → get_or xs i Shape.OpenGrade ≡ s → Member s xs
+member_at : (xs : List Shape) (i : ℕ) (s : Shape) → i < length xs → get_or xs i (Shape.Open RankKind.Grade) ≡ s → Member s xs
 member_at [] i s h e = absurd (omega arith)
 member_at (x ∷ xs) zero s h e = inl (sym e)
 member_at (x ∷ xs) (suc i) s h e = inr (member_at xs i s (omega arith) e)
 
 index_low : (s : Shape) → index s < 17
-index_low Shape.OpenGrade = omega arith
-index_low Shape.OpenDue = omega arith
-index_low Shape.BeginGrade = omega arith
-index_low Shape.BeginDue = omega arith
-index_low Shape.LockRead = omega arith
-index_low Shape.LockWrite = omega arith
+index_low (Shape.Open RankKind.Grade) = omega arith
+index_low (Shape.Open RankKind.Due) = omega arith
+index_low (Shape.Begin RankKind.Grade) = omega arith
+index_low (Shape.Begin RankKind.Due) = omega arith
+index_low (Shape.Lock LockKind.Read) = omega arith
+index_low (Shape.Lock LockKind.Write) = omega arith
 index_low Shape.Read = omega arith
 index_low Shape.Change = omega arith
 index_low Shape.Commit = omega arith
@@ -91,14 +92,14 @@ pub record Found (opened : Option RankKind) (its : List (ℕ × Mark)) (form : F
   pub shape : Shape
   pub numbers : Numbers
   pub allowed : allows opened shape ≡ true
-  pub walk : walk_of blank (parts_of shape) its ≡ Walk.Whole numbers
+  pub walk : walk_of blank (parts_of shape) its ≡ Ok numbers
   pub says : form ≡ form_of shape numbers
 
 module _ (opened : Option RankKind) (its : List (ℕ × Mark)) where
-  found_on : (s : Shape) (best : ℕ) (w : Walk) (rest : ℕ → Result Form ℕ) (f : Form) → walk_of blank (parts_of s) its ≡ w → allows opened s ≡ true →
+  found_on : (s : Shape) (best : ℕ) (w : Result Numbers ℕ) (rest : ℕ → Result Form ℕ) (f : Form) → walk_of blank (parts_of s) its ≡ w → allows opened s ≡ true →
       search_on s w best rest ≡ Ok f → ((b : ℕ) → rest b ≡ Ok f → Found opened its f) → Found opened its f
-  found_on s best (Walk.Whole n) rest f e a x more = record { shape = s; numbers = n; allowed = a; walk = e; says = cc }
-  found_on s best (Walk.Stops p) rest f e a x more = more (max best p) x
+  found_on s best (Ok n) rest f e a x more = record { shape = s; numbers = n; allowed = a; walk = e; says = cc }
+  found_on s best (Err p) rest f e a x more = more (max best p) x
 
   found_by : (s : Shape) (best : ℕ) (ss : List Shape) (f : Form) (t : Bool) → allows opened s ≡ t →
       cond t (search_on s (walk_of blank (parts_of s) its) best (λ b. search_of opened its b ss)) (search_of opened its best ss) ≡ Ok f →
@@ -114,7 +115,7 @@ module _ (opened : Option RankKind) (its : List (ℕ × Mark)) where
 -- where a walk stops at a place, and is allowed
 pub record Halts (opened : Option RankKind) (its : List (ℕ × Mark)) (shape : Shape) (place : ℕ) : Type 0 where
   pub allowed : allows opened shape ≡ true
-  pub walk : walk_of blank (parts_of shape) its ≡ Walk.Stops place
+  pub walk : walk_of blank (parts_of shape) its ≡ Err place
 
 -- what a search that finds none has met: each allowed shape of the list stops at that place or before, and if the
 -- place is further than at the start, one of them stops there
@@ -141,10 +142,10 @@ module _ (opened : Option RankKind) (its : List (ℕ × Mark)) where
     one = m.one;
   }
 
-  missed_on : (s : Shape) (ss : List Shape) (best : ℕ) (w : Walk) (rest : ℕ → Result Form ℕ) (place : ℕ) → walk_of blank (parts_of s) its ≡ w → allows opened s ≡ true →
+  missed_on : (s : Shape) (ss : List Shape) (best : ℕ) (w : Result Numbers ℕ) (rest : ℕ → Result Form ℕ) (place : ℕ) → walk_of blank (parts_of s) its ≡ w → allows opened s ≡ true →
       search_on s w best rest ≡ Err place → ((b : ℕ) → rest b ≡ Err place → Missed opened its ss b place) → Missed opened its (s ∷ ss) best place
-  missed_on s ss best (Walk.Whole n) rest place e a x more = let z : ◌≡◌ {A = ℕ} 0 1 = cc in absurd (omega arith)
-  missed_on s ss best (Walk.Stops p) rest place e a x more = later s ss best p place (record { allowed = a; walk = e }) (more (max best p) x)
+  missed_on s ss best (Ok n) rest place e a x more = let z : ◌≡◌ {A = ℕ} 0 1 = cc in absurd (omega arith)
+  missed_on s ss best (Err p) rest place e a x more = later s ss best p place (record { allowed = a; walk = e }) (more (max best p) x)
 
   missed_by : (s : Shape) (best : ℕ) (ss : List Shape) (place : ℕ) (t : Bool) → allows opened s ≡ t →
       cond t (search_on s (walk_of blank (parts_of s) its) best (λ b. search_of opened its b ss)) (search_of opened its best ss) ≡ Err place →
@@ -189,33 +190,28 @@ sticks opened line place x =
           (halted opened line b.shape c.0 c.2).no_further (begins_fewer (parts_of b.shape) (line_items line) (c.0 + 1) (place + 1) (omega (arith, c.1)) b.begins);
     }
 
+-- what the reader's steps come to is what the line reads as
+reading_by : (opened : Option RankKind) (line : List ℕ) (t : Bool) (r : Result Form ℕ) → ltb 120 (length line) ≡ t → search_of opened (line_items line) 0 shapes ≡ r →
+    Reads opened line (cond t (Err (record { refusal = Refusal.LineTooLong; place = 121 })) (judged opened r))
+reading_by opened line true r h e = too_long (ltb-true 120 (length line) h) refl
+reading_by opened line false (Err place) h e = no_form place (ltb-false 120 (length line) h) (sticks opened line place e) refl
+reading_by opened line false (Ok form) h e = by_turn (in_turn opened form) refl
+  where
+    by_turn : (t : Bool) → in_turn opened form ≡ t → Reads opened line (cond t (Ok form) (Err (record { refusal = Refusal.NotOpenedOnce; place = 1 })))
+    by_turn true i = reads form (ltb-false 120 (length line) h) (spells opened line form e) i refl
+    by_turn false i = out_of_turn form (ltb-false 120 (length line) h) (spells opened line form e) i refl
+
+pub reads_as : (opened : Option RankKind) (line : List ℕ) (answer : Result Form Fault) → answer ≡ reading_of opened line → Reads opened line answer
+reads_as opened line answer e = subst (Reads opened line) (sym e) (reading_by opened line (ltb 120 (length line)) (search_of opened (line_items line) 0 shapes) refl refl)
+
 -- two parts that one item could fit
 abbrev alike : Part → Part → Bool
 alike Part.Open Part.Open = true
-alike Part.Open Part.Close = false
-alike Part.Open (Part.Word v) = false
-alike Part.Open (Part.Number k) = false
-alike Part.Open Part.End = false
-alike Part.Close Part.Open = false
 alike Part.Close Part.Close = true
-alike Part.Close (Part.Word v) = false
-alike Part.Close (Part.Number k) = false
-alike Part.Close Part.End = false
-alike (Part.Word w) Part.Open = false
-alike (Part.Word w) Part.Close = false
 alike (Part.Word w) (Part.Word v) = bytes_eq (spell w) (spell v)
-alike (Part.Word w) (Part.Number k) = false
-alike (Part.Word w) Part.End = false
-alike (Part.Number r) Part.Open = false
-alike (Part.Number r) Part.Close = false
-alike (Part.Number r) (Part.Word v) = false
 alike (Part.Number r) (Part.Number k) = true
-alike (Part.Number r) Part.End = false
-alike Part.End Part.Open = false
-alike Part.End Part.Close = false
-alike Part.End (Part.Word v) = false
-alike Part.End (Part.Number k) = false
 alike Part.End Part.End = true
+alike _ _ = false
 
 -- an item that fits a part fits only parts like it
 alike_from : {p : Part} {m : Mark} → Fit p m → (q : Part) → fits q m ≡ true → alike p q ≡ true
@@ -296,7 +292,7 @@ one_shape : (s t : Shape) (ms : List Mark) → Fits (parts_of s) ms → Fits (pa
 one_shape s t ms x y =
     let a = fits_alike (parts_of s) (parts_of t) ms x y in
     let b = at_row s t shapes (at_rows s shapes shapes table_checked (each_listed s)) (each_listed t) in
-    sym (at_index s) ∙ ap (λ i. get_or shapes i Shape.OpenGrade) (same_index s t (all_alike (parts_of s) (parts_of t)) a b) ∙ at_index t
+    sym (at_index s) ∙ ap (λ i. get_or shapes i (Shape.Open RankKind.Grade)) (same_index s t (all_alike (parts_of s) (parts_of t)) a b) ∙ at_index t
 
 one_form : (opened : Option RankKind) (line : List ℕ) (f g : Form) → Spells opened line f → Spells opened line g → f ≡ g
 one_form opened line f g x y =

@@ -1,5 +1,5 @@
 -- What the reader's walks say of a line: the items fit the shape, or the place where they no longer do.
-use Rattle.std.proofs.Common.{◌≡◌, ℕ, ◌+◌, ◌<◌, ◌≤◌, Bool, true, false, cond, eqb, ltb, List, [], ◌∷◌, ℤ, Some, None, MatchBool, Option, sym, refl, ◌∙◌, subst, arith}
+use Rattle.std.proofs.Common.{◌≡◌, ℕ, ◌+◌, ◌<◌, ◌≤◌, Bool, true, false, cond, eqb, ltb, List, [], ◌∷◌, ℤ, Some, None, Ok, Err, MatchBool, Option, sym, refl, ◌∙◌, subst, arith}
 use Rattle.std.proofs.lemmas.Slice.Eq.{bytes_eq-Decides}
 use Rattle.std.proofs.lemmas.Bool.{cond-true, cond-false, lt-ltb, le-ltb, ltb-true}
 use Rattle.items.specs.Items.{Mark, opening, closing, word, number, line_end, is_end, behind, mark_by, run_mark, run_of, items}
@@ -8,9 +8,10 @@ use Rattle.forms.specs.Shapes.{spell, parts_of}
 use Rattle.script.specs.Reading.{Fit, fits_open, fits_close, fits_word, fits_number, fits_end, Fits, Begins, noted_at, numbers_of, marks, before}
 use Rattle.script.specs.Steps.{fits, walk_of}
 use Rattle.forms.specs.declared.shapes.Part.{Part}
+use Rattle.rules.specs.declared.LockKind.{LockKind}
+use Rattle.forms.specs.declared.shapes.RankKind.{RankKind}
 use Rattle.forms.specs.declared.shapes.Shape.{Shape}
 use Rattle.forms.specs.declared.makers.Numbers.{Numbers}
-use Rattle.script.specs.declared.reader.Walk.{Walk}
 
 pub never : (P : Type 0) → false ≡ true → P
 never P e = let z : ◌≡◌ {A = ℕ} 0 1 = cc in absurd (omega arith)
@@ -79,23 +80,20 @@ items_good w p (b ∷ bs) = good_by w p b bs (eqb b 32) (eqb b 40) (eqb b 41) (i
 
 -- the line's end is the last part of a shape, and no other
 abbrev pub is_last : Part → Bool
-is_last Part.Open = false
-is_last Part.Close = false
-is_last (Part.Word w) = false
-is_last (Part.Number r) = false
 is_last Part.End = true
+is_last _ = false
 
 abbrev pub Ends : List Part → Type 0
 Ends [] = ⊥
 Ends (p ∷ ps) = MatchBool (is_last p) (ps ≡ []) (Ends ps)
 
 pub shape_ends : (s : Shape) → Ends (parts_of s)
-shape_ends Shape.OpenGrade = refl
-shape_ends Shape.OpenDue = refl
-shape_ends Shape.BeginGrade = refl
-shape_ends Shape.BeginDue = refl
-shape_ends Shape.LockRead = refl
-shape_ends Shape.LockWrite = refl
+shape_ends (Shape.Open RankKind.Grade) = refl
+shape_ends (Shape.Open RankKind.Due) = refl
+shape_ends (Shape.Begin RankKind.Grade) = refl
+shape_ends (Shape.Begin RankKind.Due) = refl
+shape_ends (Shape.Lock LockKind.Read) = refl
+shape_ends (Shape.Lock LockKind.Write) = refl
 shape_ends Shape.Read = refl
 shape_ends Shape.Change = refl
 shape_ends Shape.Commit = refl
@@ -108,7 +106,7 @@ shape_ends Shape.Remove = refl
 shape_ends Shape.Get = refl
 shape_ends Shape.Put = refl
 
-stops_not : (P : Type 0) (b : ℕ) (n : Numbers) → Walk.Stops b ≡ Walk.Whole n → P
+stops_not : (P : Type 0) (b : ℕ) (n : Numbers) → Err b ≡ Ok n → P
 stops_not P b n e = let z : ◌≡◌ {A = ℕ} 0 1 = cc in absurd (omega arith)
 
 -- a whole walk: the items are those of the shape
@@ -117,17 +115,17 @@ record WholeWalk (n : Numbers) (ps : List Part) (its : List (ℕ × Mark)) (m : 
   says : m ≡ numbers_of n ps (marks its)
 
 Walked : List Part → List (ℕ × Mark) → Type 0
-Walked ps its = (n m : Numbers) (q : ℕ) → Ends ps → Good q its → walk_of n ps its ≡ Walk.Whole m → WholeWalk n ps its m
+Walked ps its = (n m : Numbers) (q : ℕ) → Ends ps → Good q its → walk_of n ps its ≡ Ok m → WholeWalk n ps its m
 
 end_by : (n m : Numbers) (b : ℕ) (ps : List Part) (its : List (ℕ × Mark)) → ps ≡ [] → its ≡ [] →
-    walk_of n ps ((b, line_end) ∷ its) ≡ Walk.Whole m → WholeWalk n (Part.End ∷ ps) ((b, line_end) ∷ its) m
+    walk_of n ps ((b, line_end) ∷ its) ≡ Ok m → WholeWalk n (Part.End ∷ ps) ((b, line_end) ∷ its) m
 end_by n m b [] [] f g w = record { fit = (fits_end, tt); says = cc }
 end_by n m b [] (it ∷ its) f g w = let z : ◌≡◌ {A = ℕ} 0 1 = cc in absurd (omega arith)
 end_by n m b (p ∷ ps) its f g w = let z : ◌≡◌ {A = ℕ} 0 1 = cc in absurd (omega arith)
 
 whole_by : (n m : Numbers) (b : ℕ) {p : Part} {k : Mark} (ps : List Part) (its : List (ℕ × Mark)) → Fit p k → Ends (p ∷ ps) →
     MatchBool (is_end k) (its ≡ []) (Good (b + 1) its) →
-    walk_of (noted_at n p k) ps (behind ((b, k) ∷ its)) ≡ Walk.Whole m →
+    walk_of (noted_at n p k) ps (behind ((b, k) ∷ its)) ≡ Ok m →
     Walked ps its →
     WholeWalk n (p ∷ ps) ((b, k) ∷ its) m
 unfolding Walked
@@ -138,7 +136,7 @@ whole_by n m b ps its (fits_number a z h) f g w more = let r = more _ m (b + 1) 
 whole_by n m b ps its fits_end f g w more = end_by n m b ps its f g w
 
 whole_step : (n m : Numbers) (q b : ℕ) (p : Part) (k : Mark) (ps : List Part) (its : List (ℕ × Mark)) → Ends (p ∷ ps) → Good q ((b, k) ∷ its) →
-    (t : Bool) → fits p k ≡ t → cond t (walk_of (noted_at n p k) ps (behind ((b, k) ∷ its))) (Walk.Stops b) ≡ Walk.Whole m →
+    (t : Bool) → fits p k ≡ t → cond t (walk_of (noted_at n p k) ps (behind ((b, k) ∷ its))) (Err b) ≡ Ok m →
     Walked ps its → WholeWalk n (p ∷ ps) ((b, k) ∷ its) m
 whole_step n m q b p k ps its f g true e w more = whole_by n m b ps its (fit_from p k e) f g.1 w more
 whole_step n m q b p k ps its f g false e w more = stops_not _ b m w
@@ -149,7 +147,7 @@ walked [] its n m q f g w = absurd f
 walked (p ∷ ps) [] n m q f g w = absurd g
 walked (p ∷ ps) (it ∷ its) n m q f g w = whole_step n m q it.0 p it.1 ps its f g (fits p it.1) refl w (walked ps its)
 
-pub whole_law : (n m : Numbers) (q : ℕ) (ps : List Part) (its : List (ℕ × Mark)) → Ends ps → Good q its → walk_of n ps its ≡ Walk.Whole m →
+pub whole_law : (n m : Numbers) (q : ℕ) (ps : List Part) (its : List (ℕ × Mark)) → Ends ps → Good q its → walk_of n ps its ≡ Ok m →
     Fits ps (marks its) × (m ≡ numbers_of n ps (marks its))
 unfolding Walked
 whole_law n m q ps its f g w = let r = walked ps its n m q f g w in (r.fit, r.says)
@@ -161,7 +159,7 @@ pub record Stopped (ps : List Part) (its : List (ℕ × Mark)) (q place : ℕ) :
   pub no_further : Begins ps (before (place + 1) its) → ⊥
 
 Stopping : List Part → List (ℕ × Mark) → Type 0
-Stopping ps its = (n : Numbers) (place q : ℕ) → Ends ps → Good q its → walk_of n ps its ≡ Walk.Stops place → Stopped ps its q place
+Stopping ps its = (n : Numbers) (place q : ℕ) → Ends ps → Good q its → walk_of n ps its ≡ Err place → Stopped ps its q place
 
 begins_more : (p : Part) (ps : List Part) (it : ℕ × Mark) (its : List (ℕ × Mark)) (place : ℕ) → it.0 < place → Fit p it.1 → Begins ps (before place its) →
     Begins (p ∷ ps) (before place (it ∷ its))
@@ -181,13 +179,13 @@ one_on p ps it its q place h f r = record {
   no_further = λ b. r.no_further (begins_less p ps it its (place + 1) (omega (arith, r.from)) b).1;
 }
 
-end_stops : (P : Type 0) (n : Numbers) (place b : ℕ) (ps : List Part) (its : List (ℕ × Mark)) → ps ≡ [] → walk_of n ps ((b, line_end) ∷ its) ≡ Walk.Stops place → P
+end_stops : (P : Type 0) (n : Numbers) (place b : ℕ) (ps : List Part) (its : List (ℕ × Mark)) → ps ≡ [] → walk_of n ps ((b, line_end) ∷ its) ≡ Err place → P
 end_stops P n place b [] its f w = stops_not P place n (sym w)
 end_stops P n place b (p ∷ ps) its f w = let z : ◌≡◌ {A = ℕ} 0 1 = cc in absurd (omega arith)
 
 stop_by : (n : Numbers) (place q b : ℕ) {p : Part} {k : Mark} (ps : List Part) (its : List (ℕ × Mark)) → Fit p k → Ends (p ∷ ps) → q ≤ b →
     MatchBool (is_end k) (its ≡ []) (Good (b + 1) its) →
-    walk_of (noted_at n p k) ps (behind ((b, k) ∷ its)) ≡ Walk.Stops place →
+    walk_of (noted_at n p k) ps (behind ((b, k) ∷ its)) ≡ Err place →
     Stopping ps its →
     Stopped (p ∷ ps) ((b, k) ∷ its) q place
 unfolding Stopping
@@ -205,7 +203,7 @@ here_by p k ps its q b place h e s = record {
 }
 
 stop_step : (n : Numbers) (place q b : ℕ) (p : Part) (k : Mark) (ps : List Part) (its : List (ℕ × Mark)) → Ends (p ∷ ps) → Good q ((b, k) ∷ its) →
-    (t : Bool) → fits p k ≡ t → cond t (walk_of (noted_at n p k) ps (behind ((b, k) ∷ its))) (Walk.Stops b) ≡ Walk.Stops place →
+    (t : Bool) → fits p k ≡ t → cond t (walk_of (noted_at n p k) ps (behind ((b, k) ∷ its))) (Err b) ≡ Err place →
     Stopping ps its → Stopped (p ∷ ps) ((b, k) ∷ its) q place
 stop_step n place q b p k ps its f g true e w more = stop_by n place q b ps its (fit_from p k e) f g.0 g.1 w more
 stop_step n place q b p k ps its f g false e w more = here_by p k ps its q b place g.0 e cc
@@ -216,7 +214,7 @@ stopping [] its n place q f g w = absurd f
 stopping (p ∷ ps) [] n place q f g w = absurd g
 stopping (p ∷ ps) (it ∷ its) n place q f g w = stop_step n place q it.0 p it.1 ps its f g (fits p it.1) refl w (stopping ps its)
 
-pub stops_law : (n : Numbers) (place q : ℕ) (ps : List Part) (its : List (ℕ × Mark)) → Ends ps → Good q its → walk_of n ps its ≡ Walk.Stops place → Stopped ps its q place
+pub stops_law : (n : Numbers) (place q : ℕ) (ps : List Part) (its : List (ℕ × Mark)) → Ends ps → Good q its → walk_of n ps its ≡ Err place → Stopped ps its q place
 unfolding Stopping
 stops_law n place q ps its f g w = stopping ps its n place q f g w
 

@@ -34,21 +34,10 @@ Begins ps [] = Unit {0}
 Begins [] (m ∷ ms) = ⊥
 Begins (p ∷ ps) (m ∷ ms) = Fit p m × Begins ps ms
 
--- An item where the shape asks for a number: if it is one, it is put down.
-abbrev pub noted_mark : Numbers → Role → Mark → Numbers
-noted_mark n r opening = n
-noted_mark n r closing = n
-noted_mark n r (word t) = n
-noted_mark n r (number z) = noted n r z
-noted_mark n r line_end = n
-
 -- The numbers with what an item adds at a part of the shape: a number, where the shape asks for one.
 abbrev pub noted_at : Numbers → Part → Mark → Numbers
-noted_at n Part.Open m = n
-noted_at n Part.Close m = n
-noted_at n (Part.Word w) m = n
-noted_at n (Part.Number r) m = noted_mark n r m
-noted_at n Part.End m = n
+noted_at n (Part.Number role) (number z) = noted n role z
+noted_at n _ _ = n
 
 -- The numbers of a line, by its shape.
 abbrev pub numbers_of : Numbers → List Part → List Mark → Numbers

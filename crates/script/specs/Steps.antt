@@ -1,71 +1,37 @@
 -- How the reader goes through the shapes. What it finds is said by Reading; its promise ties the two.
 use Rattle.std.specs.Prelude.{ℕ, max, Bool, true, false, cond, List, [], ◌∷◌, length, Ok, Err, Option, Result, nat_lt}
 use Rattle.std.specs.Str.{bytes_eq}
-use Rattle.items.specs.Items.{Mark, opening, closing, word, number, line_end, is_end, behind}
+use Rattle.items.specs.Items.{Mark, opening, closing, word, number, line_end, behind}
 use Rattle.forms.specs.Shapes.{spell, parts_of, shapes, allows}
 use Rattle.forms.specs.Forms.{in_range, blank, form_of}
 use Rattle.script.specs.Reading.{noted_at, line_items, in_turn}
 use Rattle.forms.specs.declared.shapes.RankKind.{RankKind}
-use Rattle.forms.specs.declared.shapes.Role.{Role}
-use Rattle.forms.specs.declared.shapes.Word.{Word}
 use Rattle.forms.specs.declared.shapes.Part.{Part}
 use Rattle.forms.specs.declared.shapes.Shape.{Shape}
 use Rattle.forms.specs.declared.makers.Form.{Form}
 use Rattle.forms.specs.declared.makers.Numbers.{Numbers}
 use Rattle.script.specs.declared.reader.Fault.{Fault}
-use Rattle.script.specs.declared.reader.Walk.{Walk}
 use Rattle.plant.specs.declared.refusals.Refusal.{Refusal}
 
--- Whether an item is an opening bracket.
-abbrev pub is_opening : Mark → Bool
-is_opening opening = true
-is_opening closing = false
-is_opening (word t) = false
-is_opening (number z) = false
-is_opening line_end = false
-
--- Whether it is a closing bracket.
-abbrev pub is_closing : Mark → Bool
-is_closing opening = false
-is_closing closing = true
-is_closing (word t) = false
-is_closing (number z) = false
-is_closing line_end = false
-
--- Whether it is this word.
-abbrev pub is_word : Word → Mark → Bool
-is_word w opening = false
-is_word w closing = false
-is_word w (word t) = bytes_eq t (spell w)
-is_word w (number z) = false
-is_word w line_end = false
-
--- Whether it is a number in this range.
-abbrev pub is_number : Role → Mark → Bool
-is_number r opening = false
-is_number r closing = false
-is_number r (word t) = false
-is_number r (number z) = in_range r z
-is_number r line_end = false
-
--- Whether an item fits a part of a shape.
+-- Whether an item fits a part of a shape: the same bracket, the same word, a number in its range, or the line's end.
 abbrev pub fits : Part → Mark → Bool
-fits Part.Open m = is_opening m
-fits Part.Close m = is_closing m
-fits (Part.Word w) m = is_word w m
-fits (Part.Number r) m = is_number r m
-fits Part.End m = is_end m
+fits Part.Open opening = true
+fits Part.Close closing = true
+fits (Part.Word w) (word text) = bytes_eq text (spell w)
+fits (Part.Number role) (number z) = in_range role z
+fits Part.End line_end = true
+fits _ _ = false
 
--- A walk along a shape: all of it, with the numbers met, or up to the place of the first item that does not fit.
-abbrev pub walk_of : Numbers → List Part → List (ℕ × Mark) → Walk
-walk_of n [] its = Walk.Whole n
-walk_of n (p ∷ ps) [] = Walk.Stops 0
-walk_of n (p ∷ ps) (it ∷ its) = cond (fits p it.1) (walk_of (noted_at n p it.1) ps (behind (it ∷ its))) (Walk.Stops it.0)
+-- A walk along a shape: the numbers met along all of it, or the place of the first item that does not fit.
+abbrev pub walk_of : Numbers → List Part → List (ℕ × Mark) → Result Numbers ℕ
+walk_of n [] its = Ok n
+walk_of n (p ∷ ps) [] = Err 0
+walk_of n (p ∷ ps) (it ∷ its) = cond (fits p it.1) (walk_of (noted_at n p it.1) ps (behind (it ∷ its))) (Err it.0)
 
 -- A search goes on with the next shape where a walk stops, and keeps the furthest place.
-abbrev pub search_on : Shape → Walk → ℕ → (ℕ → Result Form ℕ) → Result Form ℕ
-search_on s (Walk.Whole n) best rest = Ok (form_of s n)
-search_on s (Walk.Stops p) best rest = rest (max best p)
+abbrev pub search_on : Shape → Result Numbers ℕ → ℕ → (ℕ → Result Form ℕ) → Result Form ℕ
+search_on s (Ok n) best rest = Ok (form_of s n)
+search_on s (Err place) best rest = rest (max best place)
 
 -- A search through shapes: the first that a line walks to its end, or the furthest place where one stops.
 unfoldable pub search_of : Option RankKind → List (ℕ × Mark) → ℕ → List Shape → Result Form ℕ

@@ -7,21 +7,19 @@ const GRADED: Option<RankKind> = Some(RankKind::Grade);
 
 const DUES: Option<RankKind> = Some(RankKind::Due);
 
-// The refusal's number and the place of the fault; zeros for a form.
-fn fault(read: Result<Form, Fault>) -> (u8, usize) {
-    match read {
-        Ok(_) => (0, 0),
-        Err(fault) => (fault.refusal.number(), fault.place),
-    }
+// The refusal's number and the place of the fault; `None` for a form.
+fn fault(read: Result<Form, Fault>) -> Option<(u8, usize)> {
+    read.err()
+        .map(|fault| (fault.refusal.number(), fault.place))
 }
 
 // Each beginning of a line is no form, and sticks at the given place.
 fn cut(rt: &impl Abort, opened: Option<RankKind>, line: &[u8], places: &[usize]) {
-    assert!(rt; places.len() == line.len());
-    for k in 0..line.len() {
-        assert_eq!(rt; fault(read_line(opened, &line[0..k])), (22, places[k]));
+    assert_eq!(rt; places.len(), line.len());
+    for (end, place) in places.iter().enumerate() {
+        assert_eq!(rt; fault(read_line(opened, &line[..end])), Some((22, *place)));
     }
-    assert_eq!(rt; fault(read_line(opened, line)), (0, 0));
+    assert_eq!(rt; fault(read_line(opened, line)), None);
 }
 
 #[test]
@@ -113,107 +111,143 @@ fn pointers_cut_short(rt: HostRuntime) {
 
 #[test]
 fn each_byte_alone(rt: HostRuntime) {
-    for b in 0..256usize {
-        let line = [b as u8];
-        let place = if b == 32 || b == 40 { 2 } else { 1 };
-        assert_eq!(rt; fault(read_line(None, &line)), (22, place));
-        assert_eq!(rt; fault(read_line(DUES, &line)), (22, place));
+    for byte in 0..=u8::MAX {
+        let line = [byte];
+        let place = if matches!(byte, b' ' | b'(') { 2 } else { 1 };
+        assert_eq!(rt; fault(read_line(None, &line)), Some((22, place)));
+        assert_eq!(rt; fault(read_line(DUES, &line)), Some((22, place)));
     }
 }
 
 #[test]
 fn empty_lines(rt: HostRuntime) {
-    assert_eq!(rt; fault(read_line(None, b"")), (22, 1));
-    assert_eq!(rt; fault(read_line(None, b"   ")), (22, 4));
-    assert_eq!(rt; fault(read_line(GRADED, b"(commit 1  ")), (22, 12));
+    assert_eq!(rt; fault(read_line(None, b"")), Some((22, 1)));
+    assert_eq!(rt; fault(read_line(None, b"   ")), Some((22, 4)));
+    assert_eq!(rt; fault(read_line(GRADED, b"(commit 1  ")), Some((22, 12)));
 }
 
 #[test]
 fn other_bytes_join_runs(rt: HostRuntime) {
     assert_eq!(rt;
         fault(read_line(GRADED, b"(commit\t1)")),
-        (22, 2),
+        Some((22, 2)),
         "a tab is no space"
     );
-    assert_eq!(rt; fault(read_line(GRADED, b"\t(commit 1)")), (22, 1));
-    assert_eq!(rt; fault(read_line(GRADED, b"(commit 1)\r")), (22, 11));
-    assert_eq!(rt; fault(read_line(GRADED, b"(commit 1\r)")), (22, 9));
-    assert_eq!(rt; fault(read_line(GRADED, b"(commit 1)\0")), (22, 11));
-    assert_eq!(rt; fault(read_line(GRADED, b"(commit\xc3\xa9 1)")), (22, 2));
-    assert_eq!(rt; fault(read_line(GRADED, b"(commit 1) \xff")), (22, 12));
+    assert_eq!(rt; fault(read_line(GRADED, b"\t(commit 1)")), Some((22, 1)));
+    assert_eq!(rt; fault(read_line(GRADED, b"(commit 1)\r")), Some((22, 11)));
+    assert_eq!(rt; fault(read_line(GRADED, b"(commit 1\r)")), Some((22, 9)));
+    assert_eq!(rt; fault(read_line(GRADED, b"(commit 1)\0")), Some((22, 11)));
+    assert_eq!(rt;
+        fault(read_line(GRADED, b"(commit\xc3\xa9 1)")),
+        Some((22, 2))
+    );
+    assert_eq!(rt;
+        fault(read_line(GRADED, b"(commit 1) \xff")),
+        Some((22, 12))
+    );
 }
 
 #[test]
 fn wrong_words_and_brackets(rt: HostRuntime) {
-    assert_eq!(rt; fault(read_line(GRADED, b"(comit 1)")), (22, 2));
-    assert_eq!(rt; fault(read_line(GRADED, b"(commit one)")), (22, 9));
-    assert_eq!(rt; fault(read_line(GRADED, b"(commits 1)")), (22, 2));
-    assert_eq!(rt; fault(read_line(GRADED, b"(Commit 1)")), (22, 2));
-    assert_eq!(rt; fault(read_line(GRADED, b"commit 1")), (22, 1));
-    assert_eq!(rt; fault(read_line(GRADED, b")")), (22, 1));
-    assert_eq!(rt; fault(read_line(GRADED, b"()")), (22, 2));
-    assert_eq!(rt; fault(read_line(GRADED, b"((commit 1))")), (22, 2));
-    assert_eq!(rt; fault(read_line(GRADED, b"(commit (1))")), (22, 9));
-    assert_eq!(rt; fault(read_line(GRADED, b"(lock 1 read 0)")), (22, 9));
+    assert_eq!(rt; fault(read_line(GRADED, b"(comit 1)")), Some((22, 2)));
+    assert_eq!(rt; fault(read_line(GRADED, b"(commit one)")), Some((22, 9)));
+    assert_eq!(rt; fault(read_line(GRADED, b"(commits 1)")), Some((22, 2)));
+    assert_eq!(rt; fault(read_line(GRADED, b"(Commit 1)")), Some((22, 2)));
+    assert_eq!(rt; fault(read_line(GRADED, b"commit 1")), Some((22, 1)));
+    assert_eq!(rt; fault(read_line(GRADED, b")")), Some((22, 1)));
+    assert_eq!(rt; fault(read_line(GRADED, b"()")), Some((22, 2)));
+    assert_eq!(rt; fault(read_line(GRADED, b"((commit 1))")), Some((22, 2)));
+    assert_eq!(rt; fault(read_line(GRADED, b"(commit (1))")), Some((22, 9)));
+    assert_eq!(rt; fault(read_line(GRADED, b"(lock 1 read 0)")), Some((22, 9)));
 }
 
 #[test]
 fn too_many_items(rt: HostRuntime) {
-    assert_eq!(rt; fault(read_line(GRADED, b"(commit 1 2)")), (22, 11));
-    assert_eq!(rt; fault(read_line(GRADED, b"(commit 1))")), (22, 11));
-    assert_eq!(rt; fault(read_line(GRADED, b"(commit 1) (end 1)")), (22, 12));
+    assert_eq!(rt; fault(read_line(GRADED, b"(commit 1 2)")), Some((22, 11)));
+    assert_eq!(rt; fault(read_line(GRADED, b"(commit 1))")), Some((22, 11)));
+    assert_eq!(rt;
+        fault(read_line(GRADED, b"(commit 1) (end 1)")),
+        Some((22, 12))
+    );
     assert_eq!(rt;
         fault(read_line(GRADED, b"(change 1 0)")),
-        (22, 12),
+        Some((22, 12)),
         "too few"
     );
 }
 
 #[test]
 fn numbers_out_of_range(rt: HostRuntime) {
-    assert_eq!(rt; fault(read_line(None, b"(open 257 (grade))")), (22, 7));
-    assert_eq!(rt; fault(read_line(None, b"(open -1 (grade))")), (22, 7));
+    assert_eq!(rt;
+        fault(read_line(None, b"(open 257 (grade))")),
+        Some((22, 7))
+    );
+    assert_eq!(rt; fault(read_line(None, b"(open -1 (grade))")), Some((22, 7)));
     assert_eq!(rt;
         fault(read_line(GRADED, b"(begin 1 (grade 256))")),
-        (22, 17)
+        Some((22, 17))
     );
-    assert_eq!(rt; fault(read_line(GRADED, b"(clear 65536)")), (22, 8));
-    assert_eq!(rt; fault(read_line(GRADED, b"(clear 66k)")), (22, 8));
-    assert_eq!(rt; fault(read_line(GRADED, b"(put 0 2147483648)")), (22, 8));
-    assert_eq!(rt; fault(read_line(GRADED, b"(put 0 -2147483649)")), (22, 8));
-    assert_eq!(rt; fault(read_line(GRADED, b"(put 0 9999999999k)")), (22, 8));
+    assert_eq!(rt; fault(read_line(GRADED, b"(clear 65536)")), Some((22, 8)));
+    assert_eq!(rt; fault(read_line(GRADED, b"(clear 66k)")), Some((22, 8)));
+    assert_eq!(rt;
+        fault(read_line(GRADED, b"(put 0 2147483648)")),
+        Some((22, 8))
+    );
+    assert_eq!(rt;
+        fault(read_line(GRADED, b"(put 0 -2147483649)")),
+        Some((22, 8))
+    );
+    assert_eq!(rt;
+        fault(read_line(GRADED, b"(put 0 9999999999k)")),
+        Some((22, 8))
+    );
     assert_eq!(rt;
         fault(read_line(GRADED, b"(put 0 00000000001)")),
-        (22, 8),
+        Some((22, 8)),
         "eleven digits"
     );
 }
 
 #[test]
 fn rank_kinds(rt: HostRuntime) {
-    assert_eq!(rt; fault(read_line(GRADED, b"(begin 1 (due 90 7))")), (22, 11));
-    assert_eq!(rt; fault(read_line(DUES, b"(begin 1 (grade 5))")), (22, 11));
-    assert_eq!(rt; fault(read_line(GRADED, b"(open 2 (due))")), (22, 10));
-    assert_eq!(rt; fault(read_line(DUES, b"(open 2 (grade))")), (22, 10));
+    assert_eq!(rt;
+        fault(read_line(GRADED, b"(begin 1 (due 90 7))")),
+        Some((22, 11))
+    );
+    assert_eq!(rt;
+        fault(read_line(DUES, b"(begin 1 (grade 5))")),
+        Some((22, 11))
+    );
+    assert_eq!(rt; fault(read_line(GRADED, b"(open 2 (due))")), Some((22, 10)));
+    assert_eq!(rt; fault(read_line(DUES, b"(open 2 (grade))")), Some((22, 10)));
 }
 
 #[test]
 fn out_of_turn(rt: HostRuntime) {
-    assert_eq!(rt; fault(read_line(None, b"(begin 1 (due 90 7))")), (26, 1));
-    assert_eq!(rt; fault(read_line(None, b"  (begin 1 (grade 5))")), (26, 1));
-    assert_eq!(rt; fault(read_line(None, b"(get 0)")), (26, 1));
-    assert_eq!(rt; fault(read_line(GRADED, b"(open 2 (grade))")), (26, 1));
-    assert_eq!(rt; fault(read_line(DUES, b"(open 9 (due))")), (26, 1));
+    assert_eq!(rt;
+        fault(read_line(None, b"(begin 1 (due 90 7))")),
+        Some((26, 1))
+    );
+    assert_eq!(rt;
+        fault(read_line(None, b"  (begin 1 (grade 5))")),
+        Some((26, 1))
+    );
+    assert_eq!(rt; fault(read_line(None, b"(get 0)")), Some((26, 1)));
+    assert_eq!(rt;
+        fault(read_line(GRADED, b"(open 2 (grade))")),
+        Some((26, 1))
+    );
+    assert_eq!(rt; fault(read_line(DUES, b"(open 9 (due))")), Some((26, 1)));
 }
 
 #[test]
 fn too_long(rt: HostRuntime) {
     let mut line = [b' '; 121];
-    line[0..10].copy_from_slice(b"(commit 1)");
-    assert_eq!(rt; fault(read_line(GRADED, &line)), (21, 121));
-    assert_eq!(rt; fault(read_line(None, &line)), (21, 121));
-    assert_eq!(rt; fault(read_line(GRADED, &line[0..120])), (0, 0));
-    assert_eq!(rt; fault(read_line(GRADED, &[b'x'; 121])), (21, 121));
-    assert_eq!(rt; fault(read_line(GRADED, &[b'('; 120])), (22, 2));
-    assert_eq!(rt; fault(read_line(GRADED, &[b' '; 120])), (22, 121));
+    line[..10].copy_from_slice(b"(commit 1)");
+    assert_eq!(rt; fault(read_line(GRADED, &line)), Some((21, 121)));
+    assert_eq!(rt; fault(read_line(None, &line)), Some((21, 121)));
+    assert_eq!(rt; fault(read_line(GRADED, &line[..120])), None);
+    assert_eq!(rt; fault(read_line(GRADED, &[b'x'; 121])), Some((21, 121)));
+    assert_eq!(rt; fault(read_line(GRADED, &[b'('; 120])), Some((22, 2)));
+    assert_eq!(rt; fault(read_line(GRADED, &[b' '; 120])), Some((22, 121)));
 }

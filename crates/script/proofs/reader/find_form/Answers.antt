@@ -4,7 +4,7 @@ use Rattle.script.specs.Reading.{line_items}
 use Rattle.script.specs.Steps.{search_of}
 use Rattle.script.proofs.Searching.{search_skips, search_passes, search_finds, search_ends}
 use Rattle.script.proofs.reader.find_form.Goals as goal
-use Rattle.script.proofs.reader.find_form.Goals.{then-is_allowed+in-Stops, else-is_allowed}
+use Rattle.script.proofs.reader.find_form.Goals.{then-is_allowed+in-Err, else-is_allowed}
 
 pub loop-shape-init : goal.loop-shape-init
 loop-shape-init c = refl
@@ -15,9 +15,9 @@ loop-shape-preserved c =
     let f = c.loop-shape.furthest in
     let i = c.loop-shape.shape-index in
     elim c.if-is_allowed.branch [
-      | then-is_allowed+in-Stops w ↦
+      | then-is_allowed+in-Err w ↦
           ap (λ b. search_of c.args.opened its b (drop (i + 1) shapes)) (w.furthest-is ∙ w.max-furthest.ensures) ∙
-          sym (search_passes c.args.opened its f shapes i w.in-Stops.place (omega arith) (sym w.if-is_allowed.ensures) (sym w.in-Stops.ensures)) ∙
+          sym (search_passes c.args.opened its f shapes i w.in-Err.place (omega arith) (sym w.if-is_allowed.ensures) (sym w.in-Err.ensures)) ∙
           c.loop-shape.invariant
       | else-is_allowed w ↦
           ap (λ b. search_of c.args.opened its b (drop (i + 1) shapes)) w.furthest-is ∙
@@ -25,10 +25,10 @@ loop-shape-preserved c =
           c.loop-shape.invariant
     ]
 
-pub returns-in-Whole : goal.returns-in-Whole
-returns-in-Whole c =
-    ap Ok c.make_form.ensures ∙
-    sym (search_finds c.args.opened (line_items c.args.line.now) c.loop-shape.furthest shapes c.loop-shape.shape-index c.in-Whole.numbers (omega arith) (sym c.if-is_allowed.ensures) (sym c.in-Whole.ensures)) ∙
+pub returns-in-Ok : goal.returns-in-Ok
+returns-in-Ok c =
+    ap Ok c.new.ensures ∙
+    sym (search_finds c.args.opened (line_items c.args.line.now) c.loop-shape.furthest shapes c.loop-shape.shape-index c.in-Ok.numbers (omega arith) (sym c.if-is_allowed.ensures) (sym c.in-Ok.ensures)) ∙
     c.loop-shape.invariant
 
 pub returns : goal.returns
