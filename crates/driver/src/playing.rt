@@ -21,7 +21,7 @@ pub fn first_line(line: &[u8]) -> Result<Opening, Fault>
 {
     let Form::Open { count, kind } = read_line(None, line)? else {
         // Before an open, nothing else is in turn.
-        unreachable()
+        unreachable!()
     };
     Ok(Opening { count, kind })
 }
@@ -37,7 +37,7 @@ pub fn play_line<T: Table, K: ScriptRank>(
     let form = read_line(Some(K::KIND), line)?;
     let Some(call) = K::call_of(form) else {
         // Every form that is in turn asks for a call.
-        unreachable()
+        unreachable!()
     };
     Ok(engine.perform(ranks, call))
 }

@@ -1,4 +1,7 @@
 // Lines from an input of any bytes, and the answers to them.
+ghost use Rattle.std.specs.Prelude.{◌≡◌, ◌≢◌, ◌↔◌, [], take, IfSome, IfOk, OnOk, IsTrue};
+ghost use Rattle.std.specs.Io.BufRead.{first_piece};
+
 use answers::write_answer;
 use rules::Answer;
 use script::Fault;
@@ -13,6 +16,22 @@ pub struct Feed<S: Read> {
     answers: BufWriter<Stdout>,
 }
 
+// Reads through the next byte 10 and keeps what stands before it; of a line that is too long, one byte more than a line may
+// have. Answers whether there was a line.
+fn read_line<B: BufRead>(source: &mut B, line: &mut Vec<u8>) -> io::Result<bool>
+    ensures bytes { OnOk result (IfSome (B.remaining source.old) (λ left. line.new.items ≡ take 121 (first_piece 10 left))) }
+    ensures end { IfOk result (λ found. IfSome (B.remaining source.old) (λ left. IsTrue found ↔ (left ≢ []))) }
+{
+    line.clear();
+    let count = (&mut *source).take(121).read_until(b'\n', line)?;
+    if line.ends_with(b"\n") {
+        line.pop();
+    } else {
+        source.skip_until(b'\n')?;
+    }
+    Ok(count > 0)
+}
+
 impl<S: Read + Drop> Feed<S> {
     pub fn new(rt: &HostRuntime, source: S) -> io::Result<Feed<S>> {
         let heap = rt.alloc();
@@ -24,27 +43,13 @@ impl<S: Read + Drop> Feed<S> {
         })
     }
 
-    // The next line; of one that is too long, one byte more than a line may have.
+    // The next line.
     pub fn next_line(&mut self) -> io::Result<Option<&[u8]>> {
         if !self.source.buffer().contains(&b'\n') {
             // Answers are out before more input is waited for.
             self.answers.flush()?;
         }
-        self.line.clear();
-        let count = self
-            .source
-            .by_ref()
-            .take(121)
-            .read_until(b'\n', &mut self.line)?;
-        if count == 0 {
-            return Ok(None);
-        }
-        if self.line.last() == Some(&b'\n') {
-            self.line.pop();
-        } else {
-            self.source.skip_until(b'\n')?;
-        }
-        Ok(Some(&self.line))
+        Ok(read_line(&mut self.source, &mut self.line)?.then_some(self.line.as_slice()))
     }
 
     // Notes what a line brings.
