@@ -52,16 +52,19 @@ fn play<S: Read + Drop>(rt: &HostRuntime, source: S) -> io::Result<()> {
     let Some(opening) = open(&mut feed)? else {
         return Ok(());
     };
-    let count = usize::from(opening.count).min(256);
     let mut numbers = [0i32; 256];
+    // No open asks for more than there are, but its contract does not say so.
+    let count = usize::from(opening.count).min(numbers.len());
     let mut engine = Engine::open(NumberList::new(&mut numbers[..count]));
-    let first = Due {
-        minute: 0,
-        weight: 0,
-    };
     let played = match opening.kind {
         RankKind::Grade => play_on(&mut feed, &mut engine, &mut [Grade(0); 16]),
-        RankKind::Due => play_on(&mut feed, &mut engine, &mut [first; 16]),
+        RankKind::Due => {
+            let due = Due {
+                minute: 0,
+                weight: 0,
+            };
+            play_on(&mut feed, &mut engine, &mut [due; 16])
+        }
     };
     drop(engine.close());
     played
