@@ -16,9 +16,9 @@ pub struct Feed<S: Read> {
     answers: BufWriter<Stdout>,
 }
 
-// Reads through the next byte 10 and keeps what stands before it; of a line that is too long, one byte more than a line may
+// Takes the source's next line and keeps it without its byte 10; of a line that is too long, one byte more than a line may
 // have. Answers whether there was a line.
-fn read_line<B: BufRead>(source: &mut B, line: &mut Vec<u8>) -> io::Result<bool>
+fn take_line<B: BufRead>(source: &mut B, line: &mut Vec<u8>) -> io::Result<bool>
     ensures bytes { OnOk result (IfSome (B.remaining source.old) (λ left. line.new.items ≡ take 121 (first_piece 10 left))) }
     ensures end { IfOk result (λ found. IfSome (B.remaining source.old) (λ left. IsTrue found ↔ (left ≢ []))) }
 {
@@ -49,11 +49,12 @@ impl<S: Read + Drop> Feed<S> {
             // Answers are out before more input is waited for.
             self.answers.flush()?;
         }
-        Ok(read_line(&mut self.source, &mut self.line)?.then_some(self.line.as_slice()))
+        Ok(take_line(&mut self.source, &mut self.line)?.then_some(self.line.as_slice()))
     }
 
     // Notes what a line brings.
     pub fn answer(&mut self, line: Result<Answer, Fault>) -> io::Result<()> {
+        // Every answer line fits.
         let mut text = [0u8; 33];
         let Ok(end) = write_answer(&mut text, 0, line) else {
             unreachable!()

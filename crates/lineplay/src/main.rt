@@ -49,7 +49,7 @@ fn play_file(rt: &HostRuntime, file: &str) -> io::Result<()> {
 // One table of zeros, one engine and one rank list for the whole script.
 fn play<S: Read + Drop>(rt: &HostRuntime, source: S) -> io::Result<()> {
     let mut feed = Feed::new(rt, source)?;
-    let Some(opening) = open(&mut feed)? else {
+    let Some(opening) = until_open(&mut feed)? else {
         return Ok(());
     };
     let mut numbers = [0i32; 256];
@@ -71,8 +71,8 @@ fn play<S: Read + Drop>(rt: &HostRuntime, source: S) -> io::Result<()> {
 }
 
 // Up to the open each line is faulty; `None` where no open comes.
-fn open<S: Read + Drop>(feed: &mut Feed<S>) -> io::Result<Option<Opening>> {
-    // Nobody knows when the input ends, so the loop is bounded by a count that is never reached.
+fn until_open<S: Read + Drop>(feed: &mut Feed<S>) -> io::Result<Option<Opening>> {
+    // An input may have no end, so the loop ends by a count that no input reaches.
     for _ in 0..u64::MAX {
         let Some(line) = feed.next_line()? else {
             break;
@@ -92,6 +92,7 @@ fn play_on<S: Read + Drop, T: Table, K: ScriptRank>(
     engine: &mut Engine<T>,
     ranks: &mut [K],
 ) -> io::Result<()> {
+    // Bounded as above.
     for _ in 0..u64::MAX {
         let Some(line) = feed.next_line()? else {
             break;

@@ -5,8 +5,8 @@ use Rattle.std.specs.Option.{option_map}
 use Rattle.std.specs.Io.BufRead.{strip_last, take_through, ends_with_byte}
 use Rattle.std.specs.Io.KnownBytes.{IsAtEnd}
 use Rattle.lineplay.proofs.Reading.{kept, started, ends_same}
-use Rattle.lineplay.proofs.feed.read_line.Goals.{then-ends_with, else-ends_with+in_ok-skip_until}
-use Rattle.lineplay.proofs.feed.read_line.Goals as goal
+use Rattle.lineplay.proofs.feed.take_line.Goals.{then-ends_with, else-ends_with+in_ok-skip_until}
+use Rattle.lineplay.proofs.feed.take_line.Goals as goal
 
 pub returns-clause-bytes : goal.returns-clause-bytes
 returns-clause-bytes g c =
