@@ -2,6 +2,5 @@
 #![tactic(auto)]
 
 mod lines;
-mod writers;
 
-pub use lines::{AnswerLine, prints_right, write_answer};
+pub use lines::{prints_right, write_answer};

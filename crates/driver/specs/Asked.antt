@@ -39,38 +39,12 @@ plain_call (Form.Remove p) = Some (Call.Remove (pointer p))
 plain_call (Form.Get p) = Some (Call.HardRead (pointer p))
 plain_call (Form.Put p v) = Some (Call.HardWrite (pointer p) v)
 
--- With grades, a form asks for what it asks without a rank, or for a begin of that grade.
+-- With grades, a form asks for a begin of its grade, or for what it asks without a rank.
 abbrev pub grade_call : Form → Option (Call Grade)
-grade_call (Form.Open n k) = None
 grade_call (Form.BeginGrade c g) = Some (Call.Begin (client c) (grade g))
-grade_call (Form.BeginDue c m w) = None
-grade_call (Form.Lock c kind e) = plain_call (Form.Lock c kind e)
-grade_call (Form.Read c e) = plain_call (Form.Read c e)
-grade_call (Form.Change c e v) = plain_call (Form.Change c e v)
-grade_call (Form.Commit c) = plain_call (Form.Commit c)
-grade_call (Form.Back c) = plain_call (Form.Back c)
-grade_call (Form.End c) = plain_call (Form.End c)
-grade_call (Form.GiveUp c) = plain_call (Form.GiveUp c)
-grade_call (Form.Clear c) = plain_call (Form.Clear c)
-grade_call (Form.Bind p e) = plain_call (Form.Bind p e)
-grade_call (Form.Remove p) = plain_call (Form.Remove p)
-grade_call (Form.Get p) = plain_call (Form.Get p)
-grade_call (Form.Put p v) = plain_call (Form.Put p v)
+grade_call form = plain_call form
 
 -- With due times, a begin has a minute and a weight.
 abbrev pub due_call : Form → Option (Call Due)
-due_call (Form.Open n k) = None
-due_call (Form.BeginGrade c g) = None
 due_call (Form.BeginDue c m w) = Some (Call.Begin (client c) (record { minute = m; weight = w }))
-due_call (Form.Lock c kind e) = plain_call (Form.Lock c kind e)
-due_call (Form.Read c e) = plain_call (Form.Read c e)
-due_call (Form.Change c e v) = plain_call (Form.Change c e v)
-due_call (Form.Commit c) = plain_call (Form.Commit c)
-due_call (Form.Back c) = plain_call (Form.Back c)
-due_call (Form.End c) = plain_call (Form.End c)
-due_call (Form.GiveUp c) = plain_call (Form.GiveUp c)
-due_call (Form.Clear c) = plain_call (Form.Clear c)
-due_call (Form.Bind p e) = plain_call (Form.Bind p e)
-due_call (Form.Remove p) = plain_call (Form.Remove p)
-due_call (Form.Get p) = plain_call (Form.Get p)
-due_call (Form.Put p v) = plain_call (Form.Put p v)
+due_call form = plain_call form

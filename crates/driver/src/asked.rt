@@ -1,70 +1,98 @@
 // The call that a form asks for.
-ghost use Rattle.std.specs.Prelude.{◌≡◌};
+ghost use Rattle.std.specs.Prelude.{◌≡◌, ℕ, List, Some, None, Ok, Option};
+ghost use Rattle.rules.specs.declared.Call.{Call};
+ghost use Rattle.forms.specs.declared.makers.Form.{Form};
+ghost use Rattle.forms.specs.declared.shapes.RankKind.{RankKind};
+ghost use Rattle.forms.specs.declared.shapes.RankKind.TheVariants.{Grade as grades, Due as dues};
+ghost use Rattle.script.specs.Reading.{Reads};
 ghost use Rattle.driver.specs.Asked.{plain_call, grade_call, due_call};
+ghost use Rattle.std.proofs.Common.{rules};
 
-use forms::Form;
+use forms::{Form, RankKind};
 use plant::Element;
-use ranks::{Client, Due, Grade};
+use ranks::{Client, Due, Grade, Rank};
 use rules::{Call, Pointer};
+
+// A kind of rank that a script can open with.
+pub trait ScriptRank: Rank {
+    // How an open names the kind.
+    ghost KIND: { RankKind };
+
+    const KIND: RankKind;
+
+    ghost call_of: { Form → Option (Call Self) };
+
+    // The call of a form where ranks are of this kind.
+    fn call_of(form: Form) -> Option<Call<Self>>
+        ensures { result ≡ call_of form };
+
+    // Every form that a line can read as after the open asks for a call.
+    ghost asks: { (line : List ℕ) (form : Form) → Reads (Some KIND) line (Ok form) → call_of form ≡ None → ⊥ };
+}
+
+impl ScriptRank for Grade {
+    ghost KIND = { grades };
+
+    const KIND: RankKind = RankKind::Grade;
+
+    ghost call_of = { grade_call };
+
+    ghost asks = { Prim.search rules };
+
+    fn call_of(form: Form) -> Option<Call<Grade>> {
+        match form {
+            Form::BeginGrade { client, grade } => Some(Call::Begin(Client(client), Grade(grade))),
+            _ => plain_call(form),
+        }
+    }
+}
+
+impl ScriptRank for Due {
+    ghost KIND = { dues };
+
+    const KIND: RankKind = RankKind::Due;
+
+    ghost call_of = { due_call };
+
+    ghost asks = { Prim.search rules };
+
+    fn call_of(form: Form) -> Option<Call<Due>> {
+        match form {
+            Form::BeginDue {
+                client,
+                minute,
+                weight,
+            } => Some(Call::Begin(Client(client), Due { minute, weight })),
+            _ => plain_call(form),
+        }
+    }
+}
 
 // The call of a form that has no rank in it.
 fn plain_call<K: Copy>(form: Form) -> Option<Call<K>>
     ensures { result ≡ plain_call form }
 {
-    match form {
-        Form::Open { count: _, kind: _ } => None,
-        Form::BeginGrade {
-            client: _,
-            grade: _,
-        } => None,
-        Form::BeginDue {
-            client: _,
-            minute: _,
-            weight: _,
-        } => None,
+    Some(match form {
+        Form::Open { .. } | Form::BeginGrade { .. } | Form::BeginDue { .. } => return None,
         Form::Lock {
             client,
             kind,
             element,
-        } => Some(Call::Lock(Client(client), kind, Element(element))),
-        Form::Read { client, element } => Some(Call::Read(Client(client), Element(element))),
+        } => Call::Lock(Client(client), kind, Element(element)),
+        Form::Read { client, element } => Call::Read(Client(client), Element(element)),
         Form::Change {
             client,
             element,
             value,
-        } => Some(Call::Change(Client(client), Element(element), value as i64)),
-        Form::Commit { client } => Some(Call::Commit(Client(client))),
-        Form::Back { client } => Some(Call::WriteBack(Client(client))),
-        Form::End { client } => Some(Call::End(Client(client))),
-        Form::GiveUp { client } => Some(Call::GiveUp(Client(client))),
-        Form::Clear { client } => Some(Call::Clear(Client(client))),
-        Form::Bind { pointer, element } => Some(Call::Bind(Pointer(pointer), Element(element))),
-        Form::Remove { pointer } => Some(Call::Remove(Pointer(pointer))),
-        Form::Get { pointer } => Some(Call::HardRead(Pointer(pointer))),
-        Form::Put { pointer, value } => Some(Call::HardWrite(Pointer(pointer), value as i64)),
-    }
-}
-
-// The call of a form where ranks are grades.
-pub(crate) fn grade_call(form: Form) -> Option<Call<Grade>>
-    ensures { result ≡ grade_call form }
-{
-    match form {
-        Form::BeginGrade { client, grade } => Some(Call::Begin(Client(client), Grade(grade))),
-        _ => plain_call(form),
-    }
-}
-
-// The call of a form where ranks are due times.
-pub(crate) fn due_call(form: Form) -> Option<Call<Due>>
-    ensures { result ≡ due_call form }
-{
-    match form {
-        Form::BeginDue {
-            client,
-            minute,
-            weight,
-        } => Some(Call::Begin(Client(client), Due { minute, weight })),
-        _ => plain_call(form),
-    }
+        } => Call::Change(Client(client), Element(element), value as i64),
+        Form::Commit { client } => Call::Commit(Client(client)),
+        Form::Back { client } => Call::WriteBack(Client(client)),
+        Form::End { client } => Call::End(Client(client)),
+        Form::GiveUp { client } => Call::GiveUp(Client(client)),
+        Form::Clear { client } => Call::Clear(Client(client)),
+        Form::Bind { pointer, element } => Call::Bind(Pointer(pointer), Element(element)),
+        Form::Remove { pointer } => Call::Remove(Pointer(pointer)),
+        Form::Get { pointer } => Call::HardRead(Pointer(pointer)),
+        Form::Put { pointer, value } => Call::HardWrite(Pointer(pointer), value as i64),
+    })
 }

@@ -4,4 +4,5 @@
 mod asked;
 mod playing;
 
-pub use playing::{Opening, due_line, first_line, grade_line};
+pub use asked::ScriptRank;
+pub use playing::{Opening, first_line, play_line};

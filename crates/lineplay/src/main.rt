@@ -2,14 +2,11 @@
 #![tactic(auto)]
 
 mod feed;
-mod kinds;
 
-use answers::AnswerLine;
-use driver::first_line;
+use driver::{Opening, ScriptRank, first_line, play_line};
 use engine::Engine;
 use feed::Feed;
 use forms::RankKind;
-use kinds::Kind;
 use plant::{NumberList, Table};
 use ranks::{Due, Grade};
 use rules::Answer;
@@ -17,17 +14,9 @@ use std::io::Read;
 use std::process::ExitCode;
 use std::{env, fs, io};
 
-// How a run went; what went wrong has been said by then.
-#[derive(Clone, Copy)]
-enum Outcome {
-    Done,
-    Failed,
-}
-
 fn main(rt: HostRuntime) -> ExitCode {
     match run(&rt) {
-        Ok(Outcome::Done) => ExitCode::SUCCESS,
-        Ok(Outcome::Failed) => ExitCode::FAILURE,
+        Ok(code) => code,
         Err(error) => {
             let _ = eprintln!(rt; "lineplay: {error}");
             ExitCode::FAILURE
@@ -35,90 +24,81 @@ fn main(rt: HostRuntime) -> ExitCode {
     }
 }
 
-fn run(rt: &HostRuntime) -> io::Result<Outcome> {
+fn run(rt: &HostRuntime) -> io::Result<ExitCode> {
     let words: Vec<String> = env::args(rt)?.collect(rt.alloc())?;
     match words.as_slice() {
-        [_] => {
-            play(rt, rt.stdin())?;
-            Ok(Outcome::Done)
+        [_] => play(rt, rt.stdin())?,
+        [_, file] => {
+            if let Err(error) = play_file(rt, file.as_str()) {
+                eprintln!(rt; "lineplay: cannot play {file}: {error}")?;
+                return Ok(ExitCode::FAILURE);
+            }
         }
-        [_, file] => play_file(rt, file.as_str()),
         _ => {
             eprintln!(rt; "usage: lineplay < SCRIPT\n       lineplay FILE")?;
-            Ok(Outcome::Failed)
+            return Ok(ExitCode::FAILURE);
         }
     }
+    Ok(ExitCode::SUCCESS)
 }
 
-fn play_file(rt: &HostRuntime, file: &str) -> io::Result<Outcome> {
-    let played = match fs::open(rt, file) {
-        Ok(source) => play(rt, source),
-        Err(error) => Err(error),
-    };
-    match played {
-        Ok(()) => Ok(Outcome::Done),
-        Err(error) => {
-            eprintln!(rt; "lineplay: cannot play {file}: {error}")?;
-            Ok(Outcome::Failed)
-        }
-    }
-}
-
-// Up to the open each line is faulty; the lines behind it are played.
-fn play<S: Read + Drop>(rt: &HostRuntime, source: S) -> io::Result<()> {
-    let mut feed = Feed::new(rt, source)?;
-    for _ in 0..u64::MAX {
-        if !feed.next_line(rt)? {
-            break;
-        }
-        match first_line(feed.line()) {
-            Ok(opening) => {
-                feed.answer(AnswerLine::Answer(Answer::Done))?;
-                let count = opening.count as usize;
-                return match opening.kind {
-                    RankKind::Grade => play_on(rt, feed, count, [Grade(0); 16]),
-                    RankKind::Due => play_on(
-                        rt,
-                        feed,
-                        count,
-                        [Due {
-                            minute: 0,
-                            weight: 0,
-                        }; 16],
-                    ),
-                };
-            }
-            Err(fault) => feed.answer(AnswerLine::Fault(fault))?,
-        }
-    }
-    Ok(())
+fn play_file(rt: &HostRuntime, file: &str) -> io::Result<()> {
+    play(rt, fs::open(rt, file)?)
 }
 
 // One table of zeros, one engine and one rank list for the whole script.
-fn play_on<S: Read + Drop, K: Kind>(
-    rt: &HostRuntime,
-    mut feed: Feed<S>,
-    count: usize,
-    mut ranks: [K; 16],
-) -> io::Result<()> {
+fn play<S: Read + Drop>(rt: &HostRuntime, source: S) -> io::Result<()> {
+    let mut feed = Feed::new(rt, source)?;
+    let Some(opening) = until_open(&mut feed)? else {
+        return Ok(());
+    };
     let mut numbers = [0i32; 256];
-    let mut engine = Engine::open(NumberList::new(&mut numbers[0..count.min(256)]));
-    let played = play_lines(rt, &mut feed, &mut engine, &mut ranks);
+    // No open asks for more than there are, but its contract does not say so.
+    let count = usize::from(opening.count).min(numbers.len());
+    let mut engine = Engine::open(NumberList::new(&mut numbers[..count]));
+    let played = match opening.kind {
+        RankKind::Grade => play_on(&mut feed, &mut engine, &mut [Grade(0); 16]),
+        RankKind::Due => {
+            let due = Due {
+                minute: 0,
+                weight: 0,
+            };
+            play_on(&mut feed, &mut engine, &mut [due; 16])
+        }
+    };
     drop(engine.close());
     played
 }
 
-fn play_lines<S: Read, T: Table, K: Kind>(
-    rt: &HostRuntime,
+// Up to the open each line is faulty; `None` where no open comes.
+fn until_open<S: Read + Drop>(feed: &mut Feed<S>) -> io::Result<Option<Opening>> {
+    // An input may have no end, so the loop ends by a count that no input reaches.
+    for _ in 0..u64::MAX {
+        let Some(line) = feed.next_line()? else {
+            break;
+        };
+        let opened = first_line(line);
+        feed.answer(opened.map(|_| Answer::Done))?;
+        if let Ok(opening) = opened {
+            return Ok(Some(opening));
+        }
+    }
+    Ok(None)
+}
+
+// The lines behind the open.
+fn play_on<S: Read + Drop, T: Table, K: ScriptRank>(
     feed: &mut Feed<S>,
     engine: &mut Engine<T>,
     ranks: &mut [K],
 ) -> io::Result<()> {
+    // Bounded as above.
     for _ in 0..u64::MAX {
-        if !feed.next_line(rt)? {
+        let Some(line) = feed.next_line()? else {
             break;
-        }
-        feed.answer(K::play_line(engine, ranks, feed.line()))?;
+        };
+        let answer = play_line(engine, ranks, line);
+        feed.answer(answer)?;
     }
     Ok(())
 }

@@ -1,13 +1,15 @@
-use Rattle.std.proofs.Common.{None, Ok, refl, subst}
+use Rattle.std.proofs.Common.{◌≡◌, None, Ok, Err, refl, subst, rules}
 use Rattle.forms.specs.declared.makers.Form.{Form}
 use Rattle.script.specs.Reading.{Reads}
 use Rattle.driver.specs.Playing.{no_open, opened}
 use Rattle.driver.proofs.playing.first_line.Goals as goal
 
-pub returns-in-Open : goal.returns-in-Open
-returns-in-Open c =
-    let P : Form → Type 0 = λ f. Reads None c.args.line.now (Ok f) in
-    opened c.in-Open.count c.in-Open.kind (subst P c.in-Open.is c.in-Ok.ensures.means) refl
+pub returns-in_err-count : goal.returns-in_err-count
+returns-in_err-count c =
+    let faulty : c.read_line.result ≡ Err c.in_err-count.field-0.0 = search rules in
+    no_open c.in_err-count.field-0.0 (subst (Reads None c.args.line.now) faulty c.read_line.ensures.means) (search rules)
 
-pub returns-in-Err : goal.returns-in-Err
-returns-in-Err c = no_open c.in-Err.fault c.in-Err.ensures.means refl
+pub returns : goal.returns
+returns c =
+    let an_open : c.read_line.result ≡ Ok (Form.Open c.in-Open.count c.in-Open.kind) = search rules in
+    opened c.in-Open.count c.in-Open.kind (subst (Reads None c.args.line.now) an_open c.read_line.ensures.means) refl
