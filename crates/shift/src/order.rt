@@ -1,91 +1,122 @@
 // The order in which finished transactions and hard accesses count, by the rule of place.
-use super::record::{Behind, Event, Record, is_done};
+use super::record::{Event, Record};
 use plant::Element;
 use ranks::Client;
 use rules::{Answer, Call};
 use std::alloc::{AllocError, Global};
+use std::collections::BTreeMap;
+
+// Where an event stands in the order: at a moment, as what happened then or behind it.
+#[derive(Clone, Copy, PartialEq, Eq, PartialOrd, Ord)]
+struct Place {
+    moment: usize,
+    is_behind: bool,
+}
+
+// The places so far, by moment, and the accesses that belong behind each transaction, by the moment of its begin.
+#[derive(Drop)]
+struct Places {
+    record: Record,
+    places: BTreeMap<usize, Place>,
+    behind: BTreeMap<usize, Vec<usize>>,
+    heap: Global,
+}
 
 // The client whose transaction an event ends.
 fn ended(event: &Event) -> Option<Client> {
     match event.call {
-        Call::End(client) if is_done(event.answer) => Some(client),
+        Call::End(client) if event.answer == Answer::Done => Some(client),
         _ => None,
     }
 }
 
-// The element of an accepted hard access.
-fn accessed(record: &Record, event: &Event) -> Option<Element> {
-    if let Answer::Refused(_) = event.answer {
-        return None;
-    }
-    match event.call {
-        Call::HardRead(pointer) => record.tie_of(pointer),
-        Call::HardWrite(pointer, _) => record.tie_of(pointer),
-        _ => None,
-    }
-}
-
-// The accesses that belong behind a transaction are placed at its end.
-fn place_behind(places: &mut Vec<Option<usize>>, behinds: &[Behind], begun: usize, end: usize) {
-    for behind in behinds {
-        if behind.begun == begun && behind.access < places.len() {
-            places[behind.access] = Some(end);
+impl Places {
+    fn new(heap: Global) -> Places {
+        Places {
+            record: Record::new(heap),
+            places: BTreeMap::new(heap),
+            behind: BTreeMap::new(heap),
+            heap,
         }
     }
-}
 
-// The place of each accepted hard access, by its moment: its own, or the last end that it belongs behind.
-fn places(heap: Global, log: &[Event]) -> Result<Vec<Option<usize>>, AllocError> {
-    let mut record = Record::new(heap);
-    let mut places = Vec::new(heap);
-    let mut behinds = Vec::new(heap);
-    for (moment, event) in log.iter().enumerate() {
+    // The element of an accepted hard access.
+    fn accessed(&self, event: &Event) -> Option<Element> {
+        match (event.call, event.answer) {
+            (_, Answer::Refused(_)) => None,
+            (Call::HardRead(pointer), _) => self.record.tie_of(pointer),
+            (Call::HardWrite(pointer, _), _) => self.record.tie_of(pointer),
+            _ => None,
+        }
+    }
+
+    fn note(&mut self, event: &Event) -> Result<(), AllocError> {
         if let Some(client) = ended(event) {
-            place_behind(
-                &mut places,
-                behinds.as_slice(),
-                record.begun_by(client),
+            self.note_end(client, event.moment)?;
+        }
+        self.record.note(event)?;
+        if let Some(element) = self.accessed(event) {
+            self.note_access(element, event.moment)?;
+        }
+        Ok(())
+    }
+
+    // A transaction stands at its end, and the accesses that belong behind it there too, behind it.
+    fn note_end(&mut self, client: Client, moment: usize) -> Result<(), AllocError> {
+        self.places.insert(
+            moment,
+            Place {
                 moment,
-            );
+                is_behind: false,
+            },
+        )?;
+        let behind = self
+            .record
+            .begun_by(client)
+            .and_then(|begun| self.behind.remove(&begun));
+        for access in behind.into_iter().flatten() {
+            self.places.insert(
+                access,
+                Place {
+                    moment,
+                    is_behind: true,
+                },
+            )?;
         }
-        record.note(moment, event)?;
-        match accessed(&record, event) {
-            Some(element) => {
-                record.list_holders(moment, element, &mut behinds)?;
-                places.push(Some(moment))?;
-            }
-            None => places.push(None)?,
-        }
+        Ok(())
     }
-    Ok(places)
+
+    // An access stands at its own moment until a transaction ends behind which it belongs.
+    fn note_access(&mut self, element: Element, moment: usize) -> Result<(), AllocError> {
+        self.places.insert(
+            moment,
+            Place {
+                moment,
+                is_behind: false,
+            },
+        )?;
+        for begun in self.record.holders_if_marked(element)? {
+            self.behind
+                .entry(begun)?
+                .or_insert_with(|| Vec::new(self.heap))
+                .push(moment)?;
+        }
+        Ok(())
+    }
 }
 
-// The accesses that are placed at a moment, the earlier first.
-fn list_placed(
-    places: &[Option<usize>],
-    moment: usize,
-    order: &mut Vec<usize>,
-) -> Result<(), AllocError> {
-    for (access, place) in places.iter().enumerate() {
-        if let Some(at) = place {
-            if *at == moment {
-                order.push(access)?;
-            }
-        }
+// The ended transactions and the accepted hard accesses, as they count.
+pub fn order_of(heap: Global, log: &[Event]) -> Result<Vec<Event>, AllocError> {
+    let mut places = Places::new(heap);
+    for event in log {
+        places.note(event)?;
     }
-    Ok(())
-}
-
-// The moments of the ended transactions and of the accepted hard accesses, as they count: at each moment
-// first the transaction that ended there, then the accesses that are placed there.
-pub fn order_of(heap: Global, log: &[Event]) -> Result<Vec<usize>, AllocError> {
-    let places = places(heap, log)?;
-    let mut order = Vec::new(heap);
-    for (moment, event) in log.iter().enumerate() {
-        if let Some(_) = ended(event) {
-            order.push(moment)?;
-        }
-        list_placed(places.as_slice(), moment, &mut order)?;
-    }
+    let places = places.places;
+    let mut order: Vec<Event> = log
+        .iter()
+        .copied()
+        .filter(|event| places.contains_key(&event.moment))
+        .collect(heap)?;
+    order.sort_by_key(|event| places.get(&event.moment).copied())?;
     Ok(order)
 }
