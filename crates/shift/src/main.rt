@@ -1,7 +1,9 @@
 // One rescaling from beginning to end, while the mixer reads, a scale writes and a second planner tries.
 #![tactic(auto)]
 
-ghost use Rattle.std.specs.Prelude.{◌≡◌};
+ghost use Rattle.std.specs.Prelude.{◌≡◌, pos, ◌*ℤ◌, int_div, FitsSigned};
+ghost use Rattle.std.specs.Int.{w64};
+ghost use Rattle.std.specs.Option.{SomeIff};
 
 mod order;
 mod record;
@@ -125,7 +127,9 @@ impl<'a> Host<'a> {
 }
 
 // A number 3 to 2, where it has one.
-fn rescaled(number: i64) -> Option<i64> {
+fn rescaled(number: i64) -> Option<i64>
+    ensures { SomeIff result (FitsSigned w64 (number *ℤ pos 3)) (int_div (number *ℤ pos 3) (pos 2)) }
+{
     number.checked_mul(3).map(|triple| triple / 2)
 }
 

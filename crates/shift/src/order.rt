@@ -1,4 +1,6 @@
 // The order in which finished transactions and hard accesses count, by the rule of place.
+ghost use Rattle.std.specs.Prelude.{◌≡◌, false, true};
+
 use super::record::{Event, Record};
 use plant::Element;
 use ranks::Client;
@@ -11,6 +13,26 @@ use std::collections::BTreeMap;
 struct Place {
     moment: usize,
     is_behind: bool,
+}
+
+impl Place {
+    fn at(moment: usize) -> Place
+        ensures { result ≡ record { moment = moment; is_behind = false } }
+    {
+        Place {
+            moment,
+            is_behind: false,
+        }
+    }
+
+    fn behind(moment: usize) -> Place
+        ensures { result ≡ record { moment = moment; is_behind = true } }
+    {
+        Place {
+            moment,
+            is_behind: true,
+        }
+    }
 }
 
 // The places so far, by moment, and the accesses that belong behind each transaction, by the moment of its begin.
@@ -63,39 +85,24 @@ impl Places {
 
     // A transaction stands at its end, and the accesses that belong behind it there too, behind it.
     fn note_end(&mut self, client: Client, moment: usize) -> Result<(), AllocError> {
-        self.places.insert(
-            moment,
-            Place {
-                moment,
-                is_behind: false,
-            },
-        )?;
+        self.places.insert(moment, Place::at(moment))?;
         let behind = self
             .record
             .begun_by(client)
             .and_then(|begun| self.behind.remove(&begun));
         for access in behind.into_iter().flatten() {
-            self.places.insert(
-                access,
-                Place {
-                    moment,
-                    is_behind: true,
-                },
-            )?;
+            self.places.insert(access, Place::behind(moment))?;
         }
         Ok(())
     }
 
     // An access stands at its own moment until a transaction ends behind which it belongs.
     fn note_access(&mut self, element: Element, moment: usize) -> Result<(), AllocError> {
-        self.places.insert(
-            moment,
-            Place {
-                moment,
-                is_behind: false,
-            },
-        )?;
-        for begun in self.record.holders_if_marked(element)? {
+        self.places.insert(moment, Place::at(moment))?;
+        if !self.record.is_marked(element) {
+            return Ok(());
+        }
+        for begun in self.record.holders_of(element)? {
             self.behind
                 .entry(begun)?
                 .or_insert_with(|| Vec::new(self.heap))

@@ -1,5 +1,12 @@
 // The record of a log: which transaction holds what, what is marked, which pointer is tied where.
 // It is kept by calls and answers alone.
+ghost use Rattle.std.specs.Prelude.{◌≡◌, false, true, not, ◌==◌, ◌||◌, ◌&&◌, filter, OnOk, IfOk, IfSome, IfNone, MatchBool};
+ghost use Rattle.std.specs.Ordering.{nat_cmp};
+ghost use Rattle.std.specs.List.{list_any, filter_map};
+ghost use Rattle.std.specs.BTreeMap as tree;
+ghost use Rattle.std.specs.BTreeSet as set;
+ghost use Rattle.shift.specs.Record.{is_on, is_of, kind_of, conflicts, losers, left_by, with_lock};
+
 use plant::Element;
 use ranks::{Client, Grade};
 use rules::{Answer, Call, LockKind, Pointer};
@@ -33,15 +40,19 @@ pub struct Record {
 }
 
 impl Holding {
-    fn is_of(&self, client: Client, element: Element) -> bool {
+    fn is_of(&self, client: Client, element: Element) -> bool
+        ensures { result ≡ is_of client.0 element.0 self.now }
+    {
         self.client == client && self.element == element
     }
 
-    // Whether two clients cannot both hold this: readers can, where the element is not marked.
-    fn conflicts(&self, other: &Holding, marked: bool) -> bool {
-        self.element == other.element
-            && self.client != other.client
-            && (marked || self.kind == LockKind::Write || other.kind == LockKind::Write)
+    // Whether another client's granted lock throws this one's client out.
+    fn conflicts(&self, granted: &Holding, marked: bool) -> bool
+        ensures { result ≡ conflicts marked granted.now self.now }
+    {
+        self.element == granted.element
+            && self.client != granted.client
+            && (granted.kind == LockKind::Write || self.kind == LockKind::Write || marked)
     }
 }
 
@@ -77,35 +88,49 @@ impl Record {
         Ok(())
     }
 
-    fn begin(&mut self, moment: usize, client: Client) -> Result<(), AllocError> {
+    fn begin(&mut self, moment: usize, client: Client) -> Result<(), AllocError>
+        ensures begun { OnOk result (tree.Updates nat_cmp self.old.begun self.new.begun client.0 (Some moment)) }
+        ensures others { self.new ≡ record self.old { begun = self.new.begun } }
+    {
         self.begun.insert(client.0, moment)?;
         Ok(())
     }
 
     // The moment at which the client's latest transaction began.
-    pub fn begun_by(&self, client: Client) -> Option<usize> {
+    pub fn begun_by(&self, client: Client) -> Option<usize>
+        ensures { result ≡ tree.get nat_cmp self.now.begun client.0 }
+    {
         self.begun.get(&client.0).copied()
     }
 
-    fn kind_of(&self, client: Client, element: Element) -> Option<LockKind> {
+    fn kind_of(&self, client: Client, element: Element) -> Option<LockKind>
+        ensures { result ≡ kind_of client.0 element.0 self.now.holdings.items }
+    {
         self.holdings
             .iter()
             .find(|holding| holding.is_of(client, element))
             .map(|holding| holding.kind)
     }
 
-    fn is_locked(&self, element: Element) -> bool {
+    fn is_locked(&self, element: Element) -> bool
+        ensures { result ≡ list_any (is_on element.0) self.now.holdings.items }
+    {
         self.holdings
             .iter()
             .any(|holding| holding.element == element)
     }
 
-    fn is_marked(&self, element: Element) -> bool {
+    pub fn is_marked(&self, element: Element) -> bool
+        ensures { result ≡ set.contains nat_cmp self.now.marked element.0 }
+    {
         self.marked.contains(&element.0)
     }
 
     // All locks of a client go.
-    fn leave(&mut self, client: Client) {
+    fn leave(&mut self, client: Client)
+        ensures holdings { self.new.holdings.items ≡ filter (λ h. not (h.client.0 == client.0)) self.old.holdings.items }
+        ensures others { self.new ≡ record self.old { holdings = self.new.holdings } }
+    {
         self.holdings.retain(|holding| holding.client != client);
     }
 
@@ -116,48 +141,86 @@ impl Record {
             return Ok(());
         }
         self.throw_out(&granted)?;
-        self.gain(granted)
+        self.unmark_if_free(granted.element);
+        self.hold(granted)
     }
 
-    fn throw_out(&mut self, granted: &Holding) -> Result<(), AllocError> {
+    // The clients in conflict with a granted lock.
+    fn losers(&self, granted: &Holding) -> Result<Vec<Client>, AllocError>
+        ensures { IfOk result (λ v. v.items ≡ losers (set.contains nat_cmp self.now.marked granted.now.element.0) granted.now self.now.holdings.items) }
+    {
         let marked = self.is_marked(granted.element);
-        let losers: Vec<Client> = self
-            .holdings
+        self.holdings
             .iter()
             .filter(|holding| holding.conflicts(granted, marked))
             .map(|holding| holding.client)
-            .collect(self.heap)?;
+            .collect(self.heap)
+    }
+
+    // They lose all their locks.
+    fn throw_out(&mut self, granted: &Holding) -> Result<(), AllocError>
+        ensures holdings { OnOk result (self.new.holdings.items ≡ left_by (set.contains nat_cmp self.old.marked granted.now.element.0) granted.now self.old.holdings.items) }
+        ensures others { self.new ≡ record self.old { holdings = self.new.holdings } }
+    {
+        let losers = self.losers(granted)?;
         self.holdings
             .retain(|holding| !losers.contains(&holding.client));
         Ok(())
     }
 
-    // The mark goes if nobody holds the element; a reader that gains the write lock keeps it.
-    fn gain(&mut self, granted: Holding) -> Result<(), AllocError> {
-        if !self.is_locked(granted.element) {
-            self.marked.remove(&granted.element.0);
+    // The mark goes with a new lock if nobody holds the element; a reader that gains the write lock keeps it.
+    fn unmark_if_free(&mut self, element: Element)
+        ensures mark { MatchBool (list_any (is_on element.0) self.old.holdings.items)
+            (set.IsUnchanged self.old.marked self.new.marked)
+            (set.Updates nat_cmp self.old.marked self.new.marked element.0 false) }
+        ensures others { self.new ≡ record self.old { marked = self.new.marked } }
+    {
+        if !self.is_locked(element) {
+            self.marked.remove(&element.0);
         }
+    }
+
+    // In place of what the client held.
+    fn hold(&mut self, granted: Holding) -> Result<(), AllocError>
+        ensures holdings { OnOk result (self.new.holdings.items ≡ with_lock granted self.old.holdings.items) }
+        ensures others { self.new ≡ record self.old { holdings = self.new.holdings } }
+    {
         self.holdings
             .retain(|holding| !holding.is_of(granted.client, granted.element));
         self.holdings.push(granted)?;
         Ok(())
     }
 
-    fn tie(&mut self, pointer: Pointer, element: Element) -> Result<(), AllocError> {
+    fn tie(&mut self, pointer: Pointer, element: Element) -> Result<(), AllocError>
+        ensures ties { OnOk result (tree.Updates nat_cmp self.old.ties self.new.ties pointer.0 (Some element)) }
+        ensures others { self.new ≡ record self.old { ties = self.new.ties } }
+    {
         self.ties.insert(pointer.0, element)?;
         Ok(())
     }
 
-    fn untie(&mut self, pointer: Pointer) {
+    fn untie(&mut self, pointer: Pointer)
+        ensures ties { tree.Updates nat_cmp self.old.ties self.new.ties pointer.0 None }
+        ensures others { self.new ≡ record self.old { ties = self.new.ties } }
+    {
         self.ties.remove(&pointer.0);
     }
 
-    pub fn tie_of(&self, pointer: Pointer) -> Option<Element> {
+    pub fn tie_of(&self, pointer: Pointer) -> Option<Element>
+        ensures { result ≡ tree.get nat_cmp self.now.ties pointer.0 }
+    {
         self.ties.get(&pointer.0).copied()
     }
 
     // A hard write marks its element if that is locked.
-    fn mark_through(&mut self, pointer: Pointer) -> Result<(), AllocError> {
+    fn mark_through(&mut self, pointer: Pointer) -> Result<(), AllocError>
+        ensures marked { OnOk result (IfSome (tree.get nat_cmp self.old.ties pointer.0)
+            (λ e. MatchBool (list_any (is_on e.0) self.old.holdings.items)
+                (set.Updates nat_cmp self.old.marked self.new.marked e.0 true)
+                (set.IsUnchanged self.old.marked self.new.marked))) }
+        ensures untied { IfNone (tree.get nat_cmp self.old.ties pointer.0) (set.IsUnchanged self.old.marked self.new.marked) }
+        ensures others { self.new ≡ record self.old { marked = self.new.marked } }
+    {
         if let Some(element) = self.tie_of(pointer)
             && self.is_locked(element)
         {
@@ -166,11 +229,10 @@ impl Record {
         Ok(())
     }
 
-    // The transactions behind whose ends an access to the element belongs, if it is marked: all that hold it.
-    pub fn holders_if_marked(&self, element: Element) -> Result<Vec<usize>, AllocError> {
-        if !self.is_marked(element) {
-            return Ok(Vec::new(self.heap));
-        }
+    // The transactions that hold an element, by the moments of their begins.
+    pub fn holders_of(&self, element: Element) -> Result<Vec<usize>, AllocError>
+        ensures { IfOk result (λ begun. begun.items ≡ filter_map (λ h. tree.get nat_cmp self.now.begun h.client.0) (filter (is_on element.0) self.now.holdings.items)) }
+    {
         self.holdings
             .iter()
             .filter(|holding| holding.element == element)
