@@ -1,5 +1,6 @@
 // The order in which finished transactions and hard accesses count, by the rule of place.
-ghost use Rattle.std.specs.Prelude.{◌≡◌, false, true};
+ghost use Rattle.std.specs.Prelude.{◌≡◌, ◌↔◌, false, true};
+ghost use Rattle.ranks.specs.declared.Client.{Client};
 
 use super::record::{Event, Record};
 use plant::Element;
@@ -45,7 +46,9 @@ struct Places {
 }
 
 // The client whose transaction an event ends.
-fn ended(event: &Event) -> Option<Client> {
+fn ended(event: &Event) -> Option<Client>
+    ensures { (client : Client) → (result ≡ Some client) ↔ ((event.now.call ≡ Call.End client) × (event.now.answer ≡ Answer.Done)) }
+{
     match event.call {
         Call::End(client) if event.answer == Answer::Done => Some(client),
         _ => None,

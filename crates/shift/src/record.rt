@@ -1,11 +1,11 @@
 // The record of a log: which transaction holds what, what is marked, which pointer is tied where.
 // It is kept by calls and answers alone.
-ghost use Rattle.std.specs.Prelude.{◌≡◌, false, true, not, ◌==◌, ◌||◌, ◌&&◌, filter, OnOk, IfOk, IfSome, IfNone, MatchBool};
+ghost use Rattle.std.specs.Prelude.{◌≡◌, false, true, [], not, ◌==◌, ◌||◌, ◌&&◌, filter, OnOk, IfOk, IfSome, IfNone, MatchBool};
 ghost use Rattle.std.specs.Ordering.{nat_cmp};
 ghost use Rattle.std.specs.List.{list_any, filter_map};
 ghost use Rattle.std.specs.BTreeMap as tree;
 ghost use Rattle.std.specs.BTreeSet as set;
-ghost use Rattle.shift.specs.Record.{is_on, is_of, kind_of, conflicts, losers, left_by, with_lock};
+ghost use Rattle.shift.specs.Record.{is_on, is_of, kind_of, conflicts, losers, left_by, with_lock, covers, granted_to, mark_stays};
 
 use plant::Element;
 use ranks::{Client, Grade};
@@ -58,7 +58,12 @@ impl Holding {
 
 impl Record {
     // Before the first call.
-    pub fn new(heap: Global) -> Record {
+    pub fn new(heap: Global) -> Record
+        ensures begun { tree.IsEmpty result.begun }
+        ensures holdings { result.holdings.items ≡ [] }
+        ensures marked { set.IsEmpty result.marked }
+        ensures ties { tree.IsEmpty result.ties }
+    {
         Record {
             begun: BTreeMap::new(heap),
             holdings: Vec::new(heap),
@@ -135,7 +140,14 @@ impl Record {
     }
 
     // A granted lock, unless the client's present one covers it: who is in conflict with it is thrown out.
-    fn grant(&mut self, granted: Holding) -> Result<(), AllocError> {
+    fn grant(&mut self, granted: Holding) -> Result<(), AllocError>
+        ensures holdings { OnOk result (self.new.holdings.items ≡ granted_to (set.contains nat_cmp self.old.marked granted.element.0) granted self.old.holdings.items) }
+        ensures mark_kept { OnOk result (mark_stays (set.contains nat_cmp self.old.marked granted.element.0) granted self.old.holdings.items ≡ true
+            → set.IsUnchanged self.old.marked self.new.marked) }
+        ensures mark_gone { OnOk result (mark_stays (set.contains nat_cmp self.old.marked granted.element.0) granted self.old.holdings.items ≡ false
+            → set.Updates nat_cmp self.old.marked self.new.marked granted.element.0 false) }
+        ensures others { self.new ≡ record self.old { holdings = self.new.holdings; marked = self.new.marked } }
+    {
         let held = self.kind_of(granted.client, granted.element);
         if held == Some(LockKind::Write) || held == Some(granted.kind) {
             return Ok(());
