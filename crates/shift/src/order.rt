@@ -1,11 +1,15 @@
 // The order in which finished transactions and hard accesses count, by the rule of place.
-ghost use Rattle.std.specs.Prelude.{◌≡◌, ◌↔◌, false, true};
+ghost use Rattle.std.specs.Prelude.{◌≡◌, ◌≢◌, ◌↔◌, ◌⊎◌, ℤ, false, true, is_some, filter, IsSome, IsNone, IfSome, IfOk, IsPermutation};
+ghost use Rattle.std.specs.Ordering.{nat_cmp};
+ghost use Rattle.std.specs.BTreeMap as tree;
+ghost use Rattle.plant.specs.declared.refusals.Refusal.{Refusal};
 ghost use Rattle.ranks.specs.declared.Client.{Client};
+ghost use Rattle.rules.specs.declared.Pointer.{Pointer};
 
 use super::record::{Event, Record};
 use plant::Element;
 use ranks::Client;
-use rules::{Answer, Call};
+use rules::{Answer, Call, Pointer};
 use std::alloc::{AllocError, Global};
 use std::collections::BTreeMap;
 
@@ -36,18 +40,10 @@ impl Place {
     }
 }
 
-// The places so far, by moment, and the accesses that belong behind each transaction, by the moment of its begin.
-#[derive(Drop)]
-struct Places {
-    record: Record,
-    places: BTreeMap<usize, Place>,
-    behind: BTreeMap<usize, Vec<usize>>,
-    heap: Global,
-}
-
 // The client whose transaction an event ends.
 fn ended(event: &Event) -> Option<Client>
-    ensures { (client : Client) → (result ≡ Some client) ↔ ((event.now.call ≡ Call.End client) × (event.now.answer ≡ Answer.Done)) }
+    ensures { (client : Client) → (result ≡ Some client)
+        ↔ ((event.now.call ≡ Call.End client) × (event.now.answer ≡ Answer.Done)) }
 {
     match event.call {
         Call::End(client) if event.answer == Answer::Done => Some(client),
@@ -55,9 +51,37 @@ fn ended(event: &Event) -> Option<Client>
     }
 }
 
-impl Places {
-    fn new(heap: Global) -> Places {
-        Places {
+// The pointer of an accepted hard access.
+fn accessed(event: &Event) -> Option<Pointer>
+    ensures pointer { IfSome result (λ p. (event.now.call ≡ Call.HardRead p) ⊎ ((v : ℤ) × (event.now.call ≡ Call.HardWrite p v))) }
+    ensures accepted { IsSome result → (r : Refusal) → event.now.answer ≢ Answer.Refused r }
+    ensures refused { IsNone result → (p : Pointer) → event.now.call ≡ Call.HardRead p → (r : Refusal) × (event.now.answer ≡ Answer.Refused r) }
+    ensures refused_write { IsNone result → (p : Pointer) (v : ℤ) → event.now.call ≡ Call.HardWrite p v → (r : Refusal) × (event.now.answer ≡ Answer.Refused r) }
+{
+    match (event.call, event.answer) {
+        (_, Answer::Refused(_)) => None,
+        (Call::HardRead(pointer), _) => Some(pointer),
+        (Call::HardWrite(pointer, _), _) => Some(pointer),
+        _ => None,
+    }
+}
+
+// The record so far, the places by the events' moments, and the accesses that belong behind each transaction, by
+// the moment of its begin.
+#[derive(Drop)]
+struct Order {
+    record: Record,
+    places: BTreeMap<usize, Place>,
+    behind: BTreeMap<usize, Vec<usize>>,
+    heap: Global,
+}
+
+impl Order {
+    fn new(heap: Global) -> Order
+        ensures places { tree.IsEmpty result.places }
+        ensures behind { tree.IsEmpty result.behind }
+    {
+        Order {
             record: Record::new(heap),
             places: BTreeMap::new(heap),
             behind: BTreeMap::new(heap),
@@ -65,29 +89,19 @@ impl Places {
         }
     }
 
-    // The element of an accepted hard access.
-    fn accessed(&self, event: &Event) -> Option<Element> {
-        match (event.call, event.answer) {
-            (_, Answer::Refused(_)) => None,
-            (Call::HardRead(pointer), _) => self.record.tie_of(pointer),
-            (Call::HardWrite(pointer, _), _) => self.record.tie_of(pointer),
-            _ => None,
-        }
-    }
-
     fn note(&mut self, event: &Event) -> Result<(), AllocError> {
         if let Some(client) = ended(event) {
-            self.note_end(client, event.moment)?;
+            self.note_end(event.moment, client)?;
         }
         self.record.note(event)?;
-        if let Some(element) = self.accessed(event) {
-            self.note_access(element, event.moment)?;
+        if let Some(element) = accessed(event).and_then(|pointer| self.record.tie_of(pointer)) {
+            self.note_access(event.moment, element)?;
         }
         Ok(())
     }
 
-    // A transaction stands at its end, and the accesses that belong behind it there too, behind it.
-    fn note_end(&mut self, client: Client, moment: usize) -> Result<(), AllocError> {
+    // A transaction stands at its end, and behind it the accesses that belong there.
+    fn note_end(&mut self, moment: usize, client: Client) -> Result<(), AllocError> {
         self.places.insert(moment, Place::at(moment))?;
         let behind = self
             .record
@@ -99,8 +113,8 @@ impl Places {
         Ok(())
     }
 
-    // An access stands at its own moment until a transaction ends behind which it belongs.
-    fn note_access(&mut self, element: Element, moment: usize) -> Result<(), AllocError> {
+    // An access stands at its own moment until a transaction ends that holds the marked element.
+    fn note_access(&mut self, moment: usize, element: Element) -> Result<(), AllocError> {
         self.places.insert(moment, Place::at(moment))?;
         if !self.record.is_marked(element) {
             return Ok(());
@@ -113,20 +127,27 @@ impl Places {
         }
         Ok(())
     }
+
+    // The events that have a place, by place.
+    fn sorted(&self, log: &[Event]) -> Result<Vec<Event>, AllocError>
+        ensures { IfOk result (λ events. IsPermutation
+            (filter (λ event. is_some (tree.get nat_cmp self.now.places event.moment)) log.now) events.items) }
+    {
+        let mut events: Vec<Event> = log
+            .iter()
+            .copied()
+            .filter(|event| self.places.contains_key(&event.moment))
+            .collect(self.heap)?;
+        events.sort_by_key(|event| self.places.get(&event.moment).copied())?;
+        Ok(events)
+    }
 }
 
 // The ended transactions and the accepted hard accesses, as they count.
 pub fn order_of(heap: Global, log: &[Event]) -> Result<Vec<Event>, AllocError> {
-    let mut places = Places::new(heap);
+    let mut order = Order::new(heap);
     for event in log {
-        places.note(event)?;
+        order.note(event)?;
     }
-    let places = places.places;
-    let mut order: Vec<Event> = log
-        .iter()
-        .copied()
-        .filter(|event| places.contains_key(&event.moment))
-        .collect(heap)?;
-    order.sort_by_key(|event| places.get(&event.moment).copied())?;
-    Ok(order)
+    order.sorted(log)
 }

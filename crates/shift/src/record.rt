@@ -5,7 +5,7 @@ ghost use Rattle.std.specs.Ordering.{nat_cmp};
 ghost use Rattle.std.specs.List.{list_any, filter_map};
 ghost use Rattle.std.specs.BTreeMap as tree;
 ghost use Rattle.std.specs.BTreeSet as set;
-ghost use Rattle.shift.specs.Record.{is_on, is_of, kind_of, conflicts, losers, left_by, with_lock, covers, granted_to, mark_stays};
+ghost use Rattle.shift.specs.Record.{is_on, is_of, is_locked, is_marked, kind_of, conflicts, losers, left_by, with_lock, granted_to, mark_stays};
 
 use plant::Element;
 use ranks::{Client, Grade};
@@ -109,7 +109,7 @@ impl Record {
     }
 
     fn kind_of(&self, client: Client, element: Element) -> Option<LockKind>
-        ensures { result ≡ kind_of client.0 element.0 self.now.holdings.items }
+        ensures { result ≡ kind_of self.now client.0 element.0 }
     {
         self.holdings
             .iter()
@@ -118,7 +118,7 @@ impl Record {
     }
 
     fn is_locked(&self, element: Element) -> bool
-        ensures { result ≡ list_any (is_on element.0) self.now.holdings.items }
+        ensures { result ≡ is_locked self.now element.0 }
     {
         self.holdings
             .iter()
@@ -126,7 +126,7 @@ impl Record {
     }
 
     pub fn is_marked(&self, element: Element) -> bool
-        ensures { result ≡ set.contains nat_cmp self.now.marked element.0 }
+        ensures { result ≡ is_marked self.now element.0 }
     {
         self.marked.contains(&element.0)
     }
@@ -141,10 +141,10 @@ impl Record {
 
     // A granted lock, unless the client's present one covers it: who is in conflict with it is thrown out.
     fn grant(&mut self, granted: Holding) -> Result<(), AllocError>
-        ensures holdings { OnOk result (self.new.holdings.items ≡ granted_to (set.contains nat_cmp self.old.marked granted.element.0) granted self.old.holdings.items) }
-        ensures mark_kept { OnOk result (mark_stays (set.contains nat_cmp self.old.marked granted.element.0) granted self.old.holdings.items ≡ true
+        ensures holdings { OnOk result (self.new.holdings.items ≡ granted_to self.old granted) }
+        ensures mark_kept { OnOk result (mark_stays self.old granted ≡ true
             → set.IsUnchanged self.old.marked self.new.marked) }
-        ensures mark_gone { OnOk result (mark_stays (set.contains nat_cmp self.old.marked granted.element.0) granted self.old.holdings.items ≡ false
+        ensures mark_gone { OnOk result (mark_stays self.old granted ≡ false
             → set.Updates nat_cmp self.old.marked self.new.marked granted.element.0 false) }
         ensures others { self.new ≡ record self.old { holdings = self.new.holdings; marked = self.new.marked } }
     {
@@ -159,7 +159,7 @@ impl Record {
 
     // The clients in conflict with a granted lock.
     fn losers(&self, granted: &Holding) -> Result<Vec<Client>, AllocError>
-        ensures { IfOk result (λ v. v.items ≡ losers (set.contains nat_cmp self.now.marked granted.now.element.0) granted.now self.now.holdings.items) }
+        ensures { IfOk result (λ v. v.items ≡ losers self.now granted.now) }
     {
         let marked = self.is_marked(granted.element);
         self.holdings
@@ -171,7 +171,7 @@ impl Record {
 
     // They lose all their locks.
     fn throw_out(&mut self, granted: &Holding) -> Result<(), AllocError>
-        ensures holdings { OnOk result (self.new.holdings.items ≡ left_by (set.contains nat_cmp self.old.marked granted.now.element.0) granted.now self.old.holdings.items) }
+        ensures holdings { OnOk result (self.new.holdings.items ≡ left_by self.old granted.now) }
         ensures others { self.new ≡ record self.old { holdings = self.new.holdings } }
     {
         let losers = self.losers(granted)?;
@@ -182,7 +182,7 @@ impl Record {
 
     // The mark goes with a new lock if nobody holds the element; a reader that gains the write lock keeps it.
     fn unmark_if_free(&mut self, element: Element)
-        ensures mark { MatchBool (list_any (is_on element.0) self.old.holdings.items)
+        ensures mark { MatchBool (is_locked self.old element.0)
             (set.IsUnchanged self.old.marked self.new.marked)
             (set.Updates nat_cmp self.old.marked self.new.marked element.0 false) }
         ensures others { self.new ≡ record self.old { marked = self.new.marked } }
@@ -227,10 +227,11 @@ impl Record {
     // A hard write marks its element if that is locked.
     fn mark_through(&mut self, pointer: Pointer) -> Result<(), AllocError>
         ensures marked { OnOk result (IfSome (tree.get nat_cmp self.old.ties pointer.0)
-            (λ e. MatchBool (list_any (is_on e.0) self.old.holdings.items)
-                (set.Updates nat_cmp self.old.marked self.new.marked e.0 true)
-                (set.IsUnchanged self.old.marked self.new.marked))) }
-        ensures untied { IfNone (tree.get nat_cmp self.old.ties pointer.0) (set.IsUnchanged self.old.marked self.new.marked) }
+            (λ e. MatchBool (is_locked self.old e.0)
+            (set.Updates nat_cmp self.old.marked self.new.marked e.0 true)
+            (set.IsUnchanged self.old.marked self.new.marked))) }
+        ensures untied { IfNone (tree.get nat_cmp self.old.ties pointer.0)
+            (set.IsUnchanged self.old.marked self.new.marked) }
         ensures others { self.new ≡ record self.old { marked = self.new.marked } }
     {
         if let Some(element) = self.tie_of(pointer)
@@ -243,7 +244,9 @@ impl Record {
 
     // The transactions that hold an element, by the moments of their begins.
     pub fn holders_of(&self, element: Element) -> Result<Vec<usize>, AllocError>
-        ensures { IfOk result (λ begun. begun.items ≡ filter_map (λ h. tree.get nat_cmp self.now.begun h.client.0) (filter (is_on element.0) self.now.holdings.items)) }
+        ensures { IfOk result (λ begun. begun.items
+            ≡ filter_map (λ h. tree.get nat_cmp self.now.begun h.client.0)
+            (filter (is_on element.0) self.now.holdings.items)) }
     {
         self.holdings
             .iter()
