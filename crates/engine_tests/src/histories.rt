@@ -94,13 +94,7 @@ struct History<'ranks, 'calls, K> {
 
 impl<K: Rank> History<'_, '_, K> {
     // Makes the calls over a table, one after the other, and compares the answers.
-    fn over<T: Table + Drop>(
-        &mut self,
-        rt: &impl Abort,
-        name: &str,
-        table: T,
-        answers: &[Answer],
-    ) {
+    fn over<T: Table + Drop>(&mut self, rt: &impl Abort, name: &str, table: T, answers: &[Answer]) {
         assert_eq!(rt; self.calls.len(), answers.len(), "{name}");
         let mut engine = Engine::open(table);
         for (moment, (call, answer)) in self.calls.iter().zip(answers).enumerate() {
