@@ -1,10 +1,12 @@
 // The order in which finished transactions and hard accesses count, by the rule of place.
-ghost use Rattle.std.specs.Prelude.{◌≡◌, ◌≢◌, ◌↔◌, ◌⊎◌, ℤ, false, true, is_some, filter, IsSome, IsNone, IfSome, IfOk, IsPermutation};
+ghost use Rattle.std.specs.Prelude.{◌≡◌, ◌≢◌, ◌↔◌, false, true, is_some, filter, IfOk, IsPermutation, IsSortedByKey};
 ghost use Rattle.std.specs.Ordering.{nat_cmp};
+ghost use Rattle.std.specs.Option.{option_cmp};
 ghost use Rattle.std.specs.BTreeMap as tree;
 ghost use Rattle.plant.specs.declared.refusals.Refusal.{Refusal};
 ghost use Rattle.ranks.specs.declared.Client.{Client};
 ghost use Rattle.rules.specs.declared.Pointer.{Pointer};
+ghost use Rattle.shift.specs.Order.{IsHardAccess, place_cmp};
 
 use super::record::{Event, Record};
 use plant::Element;
@@ -53,15 +55,12 @@ fn ended(event: &Event) -> Option<Client>
 
 // The pointer of an accepted hard access.
 fn accessed(event: &Event) -> Option<Pointer>
-    ensures pointer { IfSome result (λ p. (event.now.call ≡ Call.HardRead p) ⊎ ((v : ℤ) × (event.now.call ≡ Call.HardWrite p v))) }
-    ensures accepted { IsSome result → (r : Refusal) → event.now.answer ≢ Answer.Refused r }
-    ensures refused { IsNone result → (p : Pointer) → event.now.call ≡ Call.HardRead p → (r : Refusal) × (event.now.answer ≡ Answer.Refused r) }
-    ensures refused_write { IsNone result → (p : Pointer) (v : ℤ) → event.now.call ≡ Call.HardWrite p v → (r : Refusal) × (event.now.answer ≡ Answer.Refused r) }
+    ensures pointer { (p : Pointer) → (result ≡ Some p)
+        ↔ (IsHardAccess event.now.call p × ((r : Refusal) → event.now.answer ≢ Answer.Refused r)) }
 {
     match (event.call, event.answer) {
         (_, Answer::Refused(_)) => None,
-        (Call::HardRead(pointer), _) => Some(pointer),
-        (Call::HardWrite(pointer, _), _) => Some(pointer),
+        (Call::HardRead(pointer) | Call::HardWrite(pointer, _), _) => Some(pointer),
         _ => None,
     }
 }
@@ -130,8 +129,12 @@ impl Order {
 
     // The events that have a place, by place.
     fn sorted(&self, log: &[Event]) -> Result<Vec<Event>, AllocError>
-        ensures { IfOk result (λ events. IsPermutation
-            (filter (λ event. is_some (tree.get nat_cmp self.now.places event.moment)) log.now) events.items) }
+        ensures placed { IfOk result (λ events. IsPermutation
+            (filter (λ event. is_some (tree.get nat_cmp self.now.places event.moment)) log.now)
+            events.items) }
+        ensures sorted { IfOk result (λ events. IsSortedByKey
+            (λ event. tree.get nat_cmp self.now.places event.moment) (option_cmp place_cmp)
+            events.items) }
     {
         let mut events: Vec<Event> = log
             .iter()

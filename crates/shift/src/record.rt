@@ -29,7 +29,8 @@ pub struct Holding {
     kind: LockKind,
 }
 
-// A transaction is named by the moment of its begin: that of a client's latest one stands in begun.
+// A transaction is named by the moment of its begin: that of a client's latest one stands in begun. The maps and
+// the set go by the numbers of clients, elements and pointers.
 #[derive(Drop)]
 pub struct Record {
     begun: BTreeMap<u16, usize>,
@@ -83,8 +84,7 @@ impl Record {
                 kind,
             })?,
             (Call::Lock(client, _, _), Answer::Lost) => self.leave(client),
-            (Call::End(client), Answer::Done) => self.leave(client),
-            (Call::GiveUp(client), Answer::Done) => self.leave(client),
+            (Call::End(client) | Call::GiveUp(client), Answer::Done) => self.leave(client),
             (Call::Bind(pointer, element), Answer::Done) => self.tie(pointer, element)?,
             (Call::Remove(pointer), Answer::Done) => self.untie(pointer),
             (Call::HardWrite(pointer, _), Answer::Done) => self.mark_through(pointer)?,
@@ -94,7 +94,8 @@ impl Record {
     }
 
     fn begin(&mut self, moment: usize, client: Client) -> Result<(), AllocError>
-        ensures begun { OnOk result (tree.Updates nat_cmp self.old.begun self.new.begun client.0 (Some moment)) }
+        ensures begun { OnOk result
+            (tree.Updates nat_cmp self.old.begun self.new.begun client.0 (Some moment)) }
         ensures others { self.new ≡ record self.old { begun = self.new.begun } }
     {
         self.begun.insert(client.0, moment)?;
@@ -133,7 +134,8 @@ impl Record {
 
     // All locks of a client go.
     fn leave(&mut self, client: Client)
-        ensures holdings { self.new.holdings.items ≡ filter (λ h. not (h.client.0 == client.0)) self.old.holdings.items }
+        ensures holdings { self.new.holdings.items
+            ≡ filter (λ h. not (h.client.0 == client.0)) self.old.holdings.items }
         ensures others { self.new ≡ record self.old { holdings = self.new.holdings } }
     {
         self.holdings.retain(|holding| holding.client != client);
@@ -146,7 +148,8 @@ impl Record {
             → set.IsUnchanged self.old.marked self.new.marked) }
         ensures mark_gone { OnOk result (mark_stays self.old granted ≡ false
             → set.Updates nat_cmp self.old.marked self.new.marked granted.element.0 false) }
-        ensures others { self.new ≡ record self.old { holdings = self.new.holdings; marked = self.new.marked } }
+        ensures others { self.new
+            ≡ record self.old { holdings = self.new.holdings; marked = self.new.marked } }
     {
         let held = self.kind_of(granted.client, granted.element);
         if held == Some(LockKind::Write) || held == Some(granted.kind) {
@@ -194,7 +197,8 @@ impl Record {
 
     // In place of what the client held.
     fn hold(&mut self, granted: Holding) -> Result<(), AllocError>
-        ensures holdings { OnOk result (self.new.holdings.items ≡ with_lock granted self.old.holdings.items) }
+        ensures holdings { OnOk result
+            (self.new.holdings.items ≡ with_lock granted self.old.holdings.items) }
         ensures others { self.new ≡ record self.old { holdings = self.new.holdings } }
     {
         self.holdings
@@ -204,7 +208,8 @@ impl Record {
     }
 
     fn tie(&mut self, pointer: Pointer, element: Element) -> Result<(), AllocError>
-        ensures ties { OnOk result (tree.Updates nat_cmp self.old.ties self.new.ties pointer.0 (Some element)) }
+        ensures ties { OnOk result
+            (tree.Updates nat_cmp self.old.ties self.new.ties pointer.0 (Some element)) }
         ensures others { self.new ≡ record self.old { ties = self.new.ties } }
     {
         self.ties.insert(pointer.0, element)?;
