@@ -1,14 +1,22 @@
--- What the record of a log makes of its locks and marks.
-use Rattle.std.specs.Prelude.{ℕ, Bool, cond, false, true, not, ◌&&◌, ◌||◌, ◌==◌, List, [], ◌∷◌, ◌++◌, map, filter, find, Option, Some, None}
+-- What the record of a log makes of its locks and marks, and of an event.
+use Rattle.std.specs.Prelude.{◌≡◌, ℕ, Bool, cond, false, true, not, ◌&&◌, ◌||◌, ◌==◌, List, [], ◌∷◌, ◌++◌, map, filter, find, Option, Some, None}
 use Rattle.std.specs.Option.{option_map}
 use Rattle.std.specs.Ordering.{nat_cmp}
 use Rattle.std.specs.List.{list_any}
+use Rattle.std.specs.BTreeMap as tree
 use Rattle.std.specs.BTreeSet as set
+use Rattle.plant.specs.declared.tables.Element.{Element}
+use Rattle.plant.specs.declared.refusals.Refusal.{Refusal}
 use Rattle.ranks.specs.declared.Client.{Client}
+use Rattle.ranks.specs.declared.Grade.{Grade}
 use Rattle.rules.specs.State.{is_write}
 use Rattle.rules.specs.Locking.{kinds_conflict}
 use Rattle.rules.specs.declared.LockKind.{LockKind}
 use Rattle.rules.specs.declared.LockKind.TheVariants.{Read, Write}
+use Rattle.rules.specs.declared.Pointer.{Pointer}
+use Rattle.rules.specs.declared.Call.TheVariants.{Begin, Lock, End, GiveUp, Bind, Remove, HardWrite}
+use Rattle.rules.specs.declared.Answer.TheVariants.{Done, Lost, Refused}
+use Rattle.shift.specs.declared.record.Event.{Event}
 use Rattle.shift.specs.declared.record.Holding.{Holding}
 use Rattle.shift.specs.declared.record.Record.{Record}
 
@@ -63,3 +71,18 @@ granted_to r granted = cond (is_covered r granted) r.holdings.items (with_lock g
 -- Whether the element's mark stays at a grant: where the client's own lock covers it, or a lock on it is left.
 abbrev pub mark_stays : Record → Holding → Bool
 mark_stays r granted = is_covered r granted || list_any (is_on granted.element.0) (left_by r granted)
+
+-- The locks without those of a client.
+abbrev pub without : ℕ → Record → List Holding
+without client r = filter (λ h. not (h.client.0 == client)) r.holdings.items
+
+-- What an event makes of the record.
+pub record Noted (old : Record) (event : Event) (new : Record) : Type 0 where
+  pub refused : (r : Refusal) → event.answer ≡ Refused r → new ≡ old
+  pub begin : (c : Client) (rank : Grade) → event.call ≡ Begin c rank → event.answer ≡ Done → tree.Updates nat_cmp old.begun new.begun c.0 (Some event.moment)
+  pub granted : (c : Client) (kind : LockKind) (e : Element) → event.call ≡ Lock c kind e → event.answer ≡ Done → new.holdings.items ≡ granted_to old (record { client = c; element = e; kind = kind })
+  pub lost : (c : Client) (kind : LockKind) (e : Element) → event.call ≡ Lock c kind e → event.answer ≡ Lost → new.holdings.items ≡ without c.0 old
+  pub ended : (c : Client) → event.call ≡ End c → event.answer ≡ Done → new.holdings.items ≡ without c.0 old
+  pub given_up : (c : Client) → event.call ≡ GiveUp c → event.answer ≡ Done → new.holdings.items ≡ without c.0 old
+  pub bound : (p : Pointer) (e : Element) → event.call ≡ Bind p e → event.answer ≡ Done → tree.Updates nat_cmp old.ties new.ties p.0 (Some e)
+  pub removed : (p : Pointer) → event.call ≡ Remove p → event.answer ≡ Done → tree.Updates nat_cmp old.ties new.ties p.0 None

@@ -1,11 +1,12 @@
 // The order in which finished transactions and hard accesses count, by the rule of place.
-ghost use Rattle.std.specs.Prelude.{◌≡◌, ◌≢◌, ◌↔◌, false, true, is_some, filter, IfOk, IsPermutation, IsSortedByKey};
+ghost use Rattle.std.specs.Prelude.{Bool, ◌≡◌, ◌≢◌, ◌↔◌, false, true, is_some, filter, IfOk, IsPermutation, IsSortedByKey};
 ghost use Rattle.std.specs.Ordering.{nat_cmp};
 ghost use Rattle.std.specs.Option.{option_cmp};
 ghost use Rattle.std.specs.BTreeMap as tree;
 ghost use Rattle.plant.specs.declared.refusals.Refusal.{Refusal};
 ghost use Rattle.ranks.specs.declared.Client.{Client};
 ghost use Rattle.rules.specs.declared.Pointer.{Pointer};
+ghost use Rattle.shift.specs.declared.record.Event.{Event};
 ghost use Rattle.shift.specs.Order.{IsHardAccess, place_cmp};
 
 use super::record::{Event, Record};
@@ -147,7 +148,10 @@ impl Order {
 }
 
 // The ended transactions and the accepted hard accesses, as they count.
-pub fn order_of(heap: Global, log: &[Event]) -> Result<Vec<Event>, AllocError> {
+pub fn order_of(heap: Global, log: &[Event]) -> Result<Vec<Event>, AllocError>
+    ensures { IfOk result (λ events. (kept : Event → Bool)
+        × IsPermutation (filter kept log.now) events.items) }
+{
     let mut order = Order::new(heap);
     for event in log {
         order.note(event)?;

@@ -5,7 +5,7 @@ ghost use Rattle.std.specs.Ordering.{nat_cmp};
 ghost use Rattle.std.specs.List.{list_any, filter_map};
 ghost use Rattle.std.specs.BTreeMap as tree;
 ghost use Rattle.std.specs.BTreeSet as set;
-ghost use Rattle.shift.specs.Record.{is_on, is_of, is_locked, is_marked, kind_of, conflicts, losers, left_by, with_lock, granted_to, mark_stays};
+ghost use Rattle.shift.specs.Record.{is_on, is_of, is_locked, is_marked, kind_of, conflicts, losers, left_by, with_lock, granted_to, mark_stays, without, Noted};
 
 use plant::Element;
 use ranks::{Client, Grade};
@@ -75,7 +75,9 @@ impl Record {
     }
 
     // One more event. A client whose lock is lost is thrown out.
-    pub fn note(&mut self, event: &Event) -> Result<(), AllocError> {
+    pub fn note(&mut self, event: &Event) -> Result<(), AllocError>
+        ensures { OnOk result (Noted self.old event.now self.new) }
+    {
         match (event.call, event.answer) {
             (Call::Begin(client, _), Answer::Done) => self.begin(event.moment, client)?,
             (Call::Lock(client, kind, element), Answer::Done) => self.grant(Holding {
@@ -134,8 +136,7 @@ impl Record {
 
     // All locks of a client go.
     fn leave(&mut self, client: Client)
-        ensures holdings { self.new.holdings.items
-            ≡ filter (λ h. not (h.client.0 == client.0)) self.old.holdings.items }
+        ensures holdings { self.new.holdings.items ≡ without client.0 self.old }
         ensures others { self.new ≡ record self.old { holdings = self.new.holdings } }
     {
         self.holdings.retain(|holding| holding.client != client);
