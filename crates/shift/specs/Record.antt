@@ -1,5 +1,5 @@
 -- What the record of a log makes of its locks and marks, and of an event.
-use Rattle.std.specs.Prelude.{◌≡◌, ℕ, Bool, cond, false, true, not, ◌&&◌, ◌||◌, ◌==◌, List, [], ◌∷◌, ◌++◌, map, filter, find, Option, Some, None}
+use Rattle.std.specs.Prelude.{◌≡◌, IfSome, IfNone, ℤ, ℕ, Bool, cond, false, true, not, ◌&&◌, ◌||◌, ◌==◌, List, [], ◌∷◌, ◌++◌, map, filter, find, Option, Some, None}
 use Rattle.std.specs.Option.{option_map}
 use Rattle.std.specs.Ordering.{nat_cmp}
 use Rattle.std.specs.List.{list_any}
@@ -14,8 +14,9 @@ use Rattle.rules.specs.Locking.{kinds_conflict}
 use Rattle.rules.specs.declared.LockKind.{LockKind}
 use Rattle.rules.specs.declared.LockKind.TheVariants.{Read, Write}
 use Rattle.rules.specs.declared.Pointer.{Pointer}
+use Rattle.rules.specs.declared.Call.{Call}
 use Rattle.rules.specs.declared.Call.TheVariants.{Begin, Lock, End, GiveUp, Bind, Remove, HardWrite}
-use Rattle.rules.specs.declared.Answer.TheVariants.{Done, Lost, Refused}
+use Rattle.rules.specs.declared.Answer.TheVariants.{Done, Wait, Lost, Refused}
 use Rattle.shift.specs.declared.record.Event.{Event}
 use Rattle.shift.specs.declared.record.Holding.{Holding}
 use Rattle.shift.specs.declared.record.Record.{Record}
@@ -76,13 +77,56 @@ mark_stays r granted = is_covered r granted || list_any (is_on granted.element.0
 abbrev pub without : ℕ → Record → List Holding
 without client r = filter (λ h. not (h.client.0 == client)) r.holdings.items
 
+-- A transaction of the client begins at the moment.
+pub record Begins (old : Record) (client moment : ℕ) (new : Record) : Type 0 where
+  pub begun : tree.Updates nat_cmp old.begun new.begun client (Some moment)
+  pub others : new ≡ record old { begun = new.begun }
+
+-- The client holds nothing any more.
+pub record Leaves (old : Record) (client : ℕ) (new : Record) : Type 0 where
+  pub holdings : new.holdings.items ≡ without client old
+  pub others : new ≡ record old { holdings = new.holdings }
+
+-- A lock is granted.
+pub record Grants (old : Record) (granted : Holding) (new : Record) : Type 0 where
+  pub holdings : new.holdings.items ≡ granted_to old granted
+  pub mark_kept : mark_stays old granted ≡ true → set.IsUnchanged old.marked new.marked
+  pub mark_gone : mark_stays old granted ≡ false → set.Updates nat_cmp old.marked new.marked granted.element.0 false
+  pub others : new ≡ record old { holdings = new.holdings; marked = new.marked }
+
+-- The pointer is tied to an element, or untied.
+pub record Ties (old : Record) (pointer : ℕ) (tie : Option Element) (new : Record) : Type 0 where
+  pub ties : tree.Updates nat_cmp old.ties new.ties pointer tie
+  pub others : new ≡ record old { ties = new.ties }
+
+-- The element that the pointer is tied to, if it is and if the element is locked, is marked.
+pub record Marks (old : Record) (pointer : ℕ) (new : Record) : Type 0 where
+  pub locked : IfSome (tree.get nat_cmp old.ties pointer) (λ e. is_locked old e.0 ≡ true → set.Updates nat_cmp old.marked new.marked e.0 true)
+  pub free : IfSome (tree.get nat_cmp old.ties pointer) (λ e. is_locked old e.0 ≡ false → set.IsUnchanged old.marked new.marked)
+  pub untied : IfNone (tree.get nat_cmp old.ties pointer) (set.IsUnchanged old.marked new.marked)
+  pub others : new ≡ record old { marked = new.marked }
+
+-- Whether a call that is done can change the record.
+abbrev pub is_noted : Call Grade → Bool
+is_noted (Begin c rank) = true
+is_noted (Lock c kind e) = true
+is_noted (End c) = true
+is_noted (GiveUp c) = true
+is_noted (Bind p e) = true
+is_noted (Remove p) = true
+is_noted (HardWrite p v) = true
+is_noted _ = false
+
 -- What an event makes of the record.
-pub record Noted (old : Record) (event : Event) (new : Record) : Type 0 where
+pub record Notes (old : Record) (event : Event) (new : Record) : Type 0 where
+  pub begun : (c : Client) (rank : Grade) → event.call ≡ Begin c rank → event.answer ≡ Done → Begins old c.0 event.moment new
+  pub granted : (c : Client) (kind : LockKind) (e : Element) → event.call ≡ Lock c kind e → event.answer ≡ Done → Grants old (record { client = c; element = e; kind = kind }) new
+  pub lost : (c : Client) (kind : LockKind) (e : Element) → event.call ≡ Lock c kind e → event.answer ≡ Lost → Leaves old c.0 new
+  pub ended : (c : Client) → event.call ≡ End c → event.answer ≡ Done → Leaves old c.0 new
+  pub given_up : (c : Client) → event.call ≡ GiveUp c → event.answer ≡ Done → Leaves old c.0 new
+  pub bound : (p : Pointer) (e : Element) → event.call ≡ Bind p e → event.answer ≡ Done → Ties old p.0 (Some e) new
+  pub removed : (p : Pointer) → event.call ≡ Remove p → event.answer ≡ Done → Ties old p.0 None new
+  pub written : (p : Pointer) (v : ℤ) → event.call ≡ HardWrite p v → event.answer ≡ Done → Marks old p.0 new
+  pub not_noted : is_noted event.call ≡ false → new ≡ old
+  pub waiting : event.answer ≡ Wait → new ≡ old
   pub refused : (r : Refusal) → event.answer ≡ Refused r → new ≡ old
-  pub begin : (c : Client) (rank : Grade) → event.call ≡ Begin c rank → event.answer ≡ Done → tree.Updates nat_cmp old.begun new.begun c.0 (Some event.moment)
-  pub granted : (c : Client) (kind : LockKind) (e : Element) → event.call ≡ Lock c kind e → event.answer ≡ Done → new.holdings.items ≡ granted_to old (record { client = c; element = e; kind = kind })
-  pub lost : (c : Client) (kind : LockKind) (e : Element) → event.call ≡ Lock c kind e → event.answer ≡ Lost → new.holdings.items ≡ without c.0 old
-  pub ended : (c : Client) → event.call ≡ End c → event.answer ≡ Done → new.holdings.items ≡ without c.0 old
-  pub given_up : (c : Client) → event.call ≡ GiveUp c → event.answer ≡ Done → new.holdings.items ≡ without c.0 old
-  pub bound : (p : Pointer) (e : Element) → event.call ≡ Bind p e → event.answer ≡ Done → tree.Updates nat_cmp old.ties new.ties p.0 (Some e)
-  pub removed : (p : Pointer) → event.call ≡ Remove p → event.answer ≡ Done → tree.Updates nat_cmp old.ties new.ties p.0 None

@@ -5,7 +5,7 @@ ghost use Rattle.std.specs.Ordering.{nat_cmp};
 ghost use Rattle.std.specs.List.{list_any, filter_map};
 ghost use Rattle.std.specs.BTreeMap as tree;
 ghost use Rattle.std.specs.BTreeSet as set;
-ghost use Rattle.shift.specs.Record.{is_on, is_of, is_locked, is_marked, kind_of, conflicts, losers, left_by, with_lock, granted_to, mark_stays, without, Noted};
+ghost use Rattle.shift.specs.Record.{is_on, is_of, is_locked, is_marked, kind_of, conflicts, losers, left_by, with_lock, Begins, Grants, Leaves, Marks, Notes, Ties};
 
 use plant::Element;
 use ranks::{Client, Grade};
@@ -76,7 +76,7 @@ impl Record {
 
     // One more event. A client whose lock is lost is thrown out.
     pub fn note(&mut self, event: &Event) -> Result<(), AllocError>
-        ensures { OnOk result (Noted self.old event.now self.new) }
+        ensures { OnOk result (Notes self.old event.now self.new) }
     {
         match (event.call, event.answer) {
             (Call::Begin(client, _), Answer::Done) => self.begin(event.moment, client)?,
@@ -96,9 +96,7 @@ impl Record {
     }
 
     fn begin(&mut self, moment: usize, client: Client) -> Result<(), AllocError>
-        ensures begun { OnOk result
-            (tree.Updates nat_cmp self.old.begun self.new.begun client.0 (Some moment)) }
-        ensures others { self.new ≡ record self.old { begun = self.new.begun } }
+        ensures { OnOk result (Begins self.old client.0 moment self.new) }
     {
         self.begun.insert(client.0, moment)?;
         Ok(())
@@ -136,21 +134,14 @@ impl Record {
 
     // All locks of a client go.
     fn leave(&mut self, client: Client)
-        ensures holdings { self.new.holdings.items ≡ without client.0 self.old }
-        ensures others { self.new ≡ record self.old { holdings = self.new.holdings } }
+        ensures { Leaves self.old client.0 self.new }
     {
         self.holdings.retain(|holding| holding.client != client);
     }
 
     // A granted lock, unless the client's present one covers it: who is in conflict with it is thrown out.
     fn grant(&mut self, granted: Holding) -> Result<(), AllocError>
-        ensures holdings { OnOk result (self.new.holdings.items ≡ granted_to self.old granted) }
-        ensures mark_kept { OnOk result (mark_stays self.old granted ≡ true
-            → set.IsUnchanged self.old.marked self.new.marked) }
-        ensures mark_gone { OnOk result (mark_stays self.old granted ≡ false
-            → set.Updates nat_cmp self.old.marked self.new.marked granted.element.0 false) }
-        ensures others { self.new
-            ≡ record self.old { holdings = self.new.holdings; marked = self.new.marked } }
+        ensures { OnOk result (Grants self.old granted self.new) }
     {
         let held = self.kind_of(granted.client, granted.element);
         if held == Some(LockKind::Write) || held == Some(granted.kind) {
@@ -209,17 +200,14 @@ impl Record {
     }
 
     fn tie(&mut self, pointer: Pointer, element: Element) -> Result<(), AllocError>
-        ensures ties { OnOk result
-            (tree.Updates nat_cmp self.old.ties self.new.ties pointer.0 (Some element)) }
-        ensures others { self.new ≡ record self.old { ties = self.new.ties } }
+        ensures { OnOk result (Ties self.old pointer.0 (Some element) self.new) }
     {
         self.ties.insert(pointer.0, element)?;
         Ok(())
     }
 
     fn untie(&mut self, pointer: Pointer)
-        ensures ties { tree.Updates nat_cmp self.old.ties self.new.ties pointer.0 None }
-        ensures others { self.new ≡ record self.old { ties = self.new.ties } }
+        ensures { Ties self.old pointer.0 None self.new }
     {
         self.ties.remove(&pointer.0);
     }
@@ -232,13 +220,7 @@ impl Record {
 
     // A hard write marks its element if that is locked.
     fn mark_through(&mut self, pointer: Pointer) -> Result<(), AllocError>
-        ensures marked { OnOk result (IfSome (tree.get nat_cmp self.old.ties pointer.0)
-            (λ e. MatchBool (is_locked self.old e.0)
-            (set.Updates nat_cmp self.old.marked self.new.marked e.0 true)
-            (set.IsUnchanged self.old.marked self.new.marked))) }
-        ensures untied { IfNone (tree.get nat_cmp self.old.ties pointer.0)
-            (set.IsUnchanged self.old.marked self.new.marked) }
-        ensures others { self.new ≡ record self.old { marked = self.new.marked } }
+        ensures { OnOk result (Marks self.old pointer.0 self.new) }
     {
         if let Some(element) = self.tie_of(pointer)
             && self.is_locked(element)
