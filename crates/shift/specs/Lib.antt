@@ -1,2 +1,3 @@
+pub mod Log
 pub mod Order
 pub mod Record

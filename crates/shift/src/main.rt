@@ -1,9 +1,10 @@
 // One rescaling from beginning to end, while the mixer reads, a scale writes and a second planner tries.
 #![tactic(auto)]
 
-ghost use Rattle.std.specs.Prelude.{◌≡◌, pos, ◌*ℤ◌, int_div, FitsSigned};
+ghost use Rattle.std.specs.Prelude.{◌≡◌, [], ◌∷◌, ◌++◌, vec_len, IfOk, pos, ◌*ℤ◌, int_div, FitsSigned};
 ghost use Rattle.std.specs.Int.{w64};
 ghost use Rattle.std.specs.Option.{SomeIff};
+ghost use Rattle.shift.specs.Log.{IsLog};
 
 mod order;
 mod record;
@@ -61,6 +62,7 @@ struct Host<'a> {
     engine: Engine<NumberList<'a>>,
     ranks: [Grade; 16],
     log: Vec<Event>,
+    ghost moments: { IsLog log.items },
 }
 
 impl<'a> Host<'a> {
@@ -74,7 +76,11 @@ impl<'a> Host<'a> {
     }
 
     // Makes a call, and says it with its answer.
-    fn perform(&mut self, call: Call<Grade>) -> io::Result<Answer> {
+    fn perform(&mut self, call: Call<Grade>) -> io::Result<Answer>
+        ensures { IfOk result (λ answer. self.new.log.items
+            ≡ self.old.log.items
+            ++ record { moment = vec_len self.old.log; call = call; answer = answer } ∷ []) }
+    {
         let answer = self.engine.perform(&mut self.ranks, call);
         let event = Event {
             moment: self.log.len(),
@@ -114,7 +120,9 @@ impl<'a> Host<'a> {
     }
 
     // The numbers are left as the table has them; gives the log.
-    fn close(self) -> Vec<Event> {
+    fn close(self) -> Vec<Event>
+        ensures { result ≡ self.entry.log }
+    {
         let Host {
             rt: _,
             engine,
@@ -134,7 +142,9 @@ fn rescaled(number: i64) -> Option<i64>
 }
 
 // All calls over the batch's numbers; gives the log.
-fn log_of_all(rt: &HostRuntime, numbers: &mut [i32]) -> io::Result<Vec<Event>> {
+fn log_of_all(rt: &HostRuntime, numbers: &mut [i32]) -> io::Result<Vec<Event>>
+    ensures { IfOk result (λ log. IsLog log.items) }
+{
     let mut host = Host::open(rt, numbers);
     let outcome = host.perform_all();
     let log = host.close();
