@@ -15,13 +15,25 @@ use order::order_of;
 use plant::{Element, NumberList};
 use ranks::{Client, Grade};
 use record::Event;
-use rules::{Answer, Call, LockKind};
+use rules::{Answer, Call, LockKind, Pointer};
 use std::io;
-use words::{EGGS, FLOUR, MIXER, SALT, SCALE, WATER, Words};
+use words::Words;
 
 const FIRST: Client = Client(1);
 
 const SECOND: Client = Client(2);
+
+const MIXER: Pointer = Pointer(0);
+
+const SCALE: Pointer = Pointer(1);
+
+const FLOUR: Element = Element(0);
+
+const WATER: Element = Element(1);
+
+const EGGS: Element = Element(2);
+
+const SALT: Element = Element(3);
 
 const PREPARATION: [Call<Grade>; 5] = [
     Call::Bind(MIXER, WATER),
@@ -66,7 +78,9 @@ struct Host<'a> {
 }
 
 impl<'a> Host<'a> {
-    fn open(rt: &'a HostRuntime, numbers: &'a mut [i32]) -> Host<'a> {
+    fn open(rt: &'a HostRuntime, numbers: &'a mut [i32]) -> Host<'a>
+        ensures { result.log.items ≡ [] }
+    {
         Host {
             rt,
             engine: Engine::open(NumberList::new(numbers)),

@@ -1,21 +1,10 @@
-// The batch, and events on it in words.
+// Events and numbers in words.
 use super::record::Event;
+use super::{EGGS, FLOUR, MIXER, SALT, SCALE, WATER};
 use plant::Element;
 use ranks::{Client, Grade};
 use rules::{Answer, Call, Fate, LockKind, Pointer};
 use std::fmt;
-
-pub const MIXER: Pointer = Pointer(0);
-
-pub const SCALE: Pointer = Pointer(1);
-
-pub const FLOUR: Element = Element(0);
-
-pub const WATER: Element = Element(1);
-
-pub const EGGS: Element = Element(2);
-
-pub const SALT: Element = Element(3);
 
 // What a value is called in the bakery.
 #[derive(Clone, Copy)]
