@@ -6,32 +6,32 @@ use ranks::{Client, Due, Grade, Rank};
 use rules::{Answer, Call, Fate, LockKind, Pointer};
 use std::process::Abort;
 
-// The history, call by call. Client 1 stands above client 2, and takes the element that client 2 reads. It changes
-// two elements and commits, while a hard write comes to one of them. Then client 2 looks at the other one.
-fn call_at<K: Rank>(moment: usize, first: K, second: K) -> Call<K> {
-    match moment {
-        0 => Call::Bind(Pointer(0), Element(0)),
-        1 => Call::Begin(Client(1), first),
-        2 => Call::Begin(Client(2), second),
-        3 => Call::Lock(Client(2), LockKind::Read, Element(0)),
-        4 => Call::Lock(Client(1), LockKind::Write, Element(0)),
-        5 => Call::Read(Client(2), Element(0)),
-        6 => Call::Lock(Client(1), LockKind::Write, Element(1)),
-        7 => Call::Change(Client(1), Element(0), 130),
-        8 => Call::Change(Client(1), Element(1), 140),
-        9 => Call::HardWrite(Pointer(0), 90),
-        10 => Call::Commit(Client(1)),
-        11 => Call::WriteBack(Client(1)),
-        12 => Call::WriteBack(Client(1)),
-        13 => Call::HardRead(Pointer(0)),
-        14 => Call::End(Client(1)),
-        15 => Call::Clear(Client(2)),
-        16 => Call::Begin(Client(2), second),
-        17 => Call::Lock(Client(2), LockKind::Read, Element(1)),
-        18 => Call::Read(Client(2), Element(1)),
-        19 => Call::GiveUp(Client(2)),
-        _ => Call::Remove(Pointer(0)),
-    }
+// The history. Client 1 stands above client 2, and takes the element that client 2 reads. It changes two elements
+// and commits, while a hard write comes to one of them. Then client 2 looks at the other one.
+fn history_calls<K: Rank>(first: K, second: K) -> [Call<K>; 21] {
+    [
+        Call::Bind(Pointer(0), Element(0)),
+        Call::Begin(Client(1), first),
+        Call::Begin(Client(2), second),
+        Call::Lock(Client(2), LockKind::Read, Element(0)),
+        Call::Lock(Client(1), LockKind::Write, Element(0)),
+        Call::Read(Client(2), Element(0)),
+        Call::Lock(Client(1), LockKind::Write, Element(1)),
+        Call::Change(Client(1), Element(0), 130),
+        Call::Change(Client(1), Element(1), 140),
+        Call::HardWrite(Pointer(0), 90),
+        Call::Commit(Client(1)),
+        Call::WriteBack(Client(1)),
+        Call::WriteBack(Client(1)),
+        Call::HardRead(Pointer(0)),
+        Call::End(Client(1)),
+        Call::Clear(Client(2)),
+        Call::Begin(Client(2), second),
+        Call::Lock(Client(2), LockKind::Read, Element(1)),
+        Call::Read(Client(2), Element(1)),
+        Call::GiveUp(Client(2)),
+        Call::Remove(Pointer(0)),
+    ]
 }
 
 // Where 90, 130 and 140 can be held: the marked element is dropped and shows the hard write, and the other one
@@ -85,69 +85,47 @@ const OVER_ZEROS: [Answer; 21] = [
     Answer::Done,
 ];
 
-// Makes the calls one after the other, and compares the answers.
-fn history<T: Table, K: Rank>(
-    rt: &impl Abort,
-    table: &str,
-    engine: &mut Engine<T>,
-    ranks: &mut [K],
-    first: K,
-    second: K,
-    answers: &[Answer],
-) {
-    for (moment, answer) in answers.iter().enumerate() {
-        let call = call_at(moment, first, second);
-        assert_eq!(rt; engine.perform(ranks, call), *answer, "{table}: {moment}");
+// The history's calls, and the host's rank list that they are made with.
+#[derive(Drop)]
+struct History<'ranks, 'calls, K> {
+    ranks: &'ranks mut [K],
+    calls: &'calls [Call<K>],
+}
+
+impl<K: Rank> History<'_, '_, K> {
+    // Makes the calls over a table, one after the other, and compares the answers.
+    fn over<T: Table + Drop>(&mut self, rt: &impl Abort, name: &str, table: T, answers: &[Answer]) {
+        assert_eq!(rt; self.calls.len(), answers.len(), "{name}");
+        let mut engine = Engine::open(table);
+        for (moment, (call, answer)) in self.calls.iter().zip(answers).enumerate() {
+            assert_eq!(rt;
+                engine.perform(self.ranks, *call),
+                *answer,
+                "{name}: {moment}"
+            );
+        }
+        drop(engine.close());
     }
-}
 
-fn over_a_list<K: Rank>(rt: &impl Abort, ranks: &mut [K], first: K, second: K) {
-    let mut entries = [100, 100, 100];
-    let mut engine = Engine::open(NumberList::new(&mut entries));
-    history(
-        rt,
-        "number list",
-        &mut engine,
-        ranks,
-        first,
-        second,
-        &OVER_NUMBERS,
-    );
-    drop(engine.close());
-    assert!(rt; entries == [90, 140, 100], "number list");
-}
-
-fn over_an_image<K: Rank>(rt: &impl Abort, ranks: &mut [K], first: K, second: K) {
-    let mut bytes = [0, 3, 0, 100, 0, 100, 0, 100];
-    let mut engine = Engine::open(Image::open(&mut bytes));
-    history(
-        rt,
-        "image",
-        &mut engine,
-        ranks,
-        first,
-        second,
-        &OVER_NUMBERS,
-    );
-    drop(engine.close());
-    assert!(rt; bytes == [0, 3, 0, 90, 0, 140, 0, 100], "image");
-}
-
-fn over_zeros<K: Rank>(rt: &impl Abort, ranks: &mut [K], first: K, second: K) {
-    let mut engine = Engine::open(ZeroTable);
-    history(rt, "zeros", &mut engine, ranks, first, second, &OVER_ZEROS);
-    drop(engine.close());
-}
-
-fn over_all<K: Rank>(rt: &impl Abort, ranks: &mut [K], first: K, second: K) {
-    over_a_list(rt, ranks, first, second);
-    over_an_image(rt, ranks, first, second);
-    over_zeros(rt, ranks, first, second);
+    fn over_all(&mut self, rt: &impl Abort) {
+        let mut entries = [100, 100, 100];
+        let list = NumberList::new(&mut entries);
+        self.over(rt, "number list", list, &OVER_NUMBERS);
+        assert!(rt; entries == [90, 140, 100], "number list");
+        let mut bytes = [0, 3, 0, 100, 0, 100, 0, 100];
+        self.over(rt, "image", Image::open(&mut bytes), &OVER_NUMBERS);
+        assert!(rt; bytes == [0, 3, 0, 90, 0, 140, 0, 100], "image");
+        self.over(rt, "zeros", ZeroTable, &OVER_ZEROS);
+    }
 }
 
 #[test]
 fn with_grades(rt: HostRuntime) {
-    over_all(&rt, &mut [Grade(0); 16], Grade(5), Grade(3));
+    let mut history = History {
+        ranks: &mut [Grade(0); 16],
+        calls: &history_calls(Grade(5), Grade(3)),
+    };
+    history.over_all(&rt);
 }
 
 // Both batches are due in the same minute, so the larger weight is above.
@@ -161,5 +139,9 @@ fn with_dues(rt: HostRuntime) {
         minute: 300,
         weight: 9,
     };
-    over_all(&rt, &mut [second; 16], first, second);
+    let mut history = History {
+        ranks: &mut [second; 16],
+        calls: &history_calls(first, second),
+    };
+    history.over_all(&rt);
 }

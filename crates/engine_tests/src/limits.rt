@@ -7,34 +7,52 @@ use std::process::Abort;
 
 const CLIENT: Client = Client(3);
 
+// Makes the calls one after the other; each has to get the answer beside it.
+fn play<T: Table>(
+    rt: &impl Abort,
+    name: &str,
+    engine: &mut Engine<T>,
+    ranks: &mut [Grade],
+    steps: &[(Call<Grade>, Answer)],
+) {
+    for (call, answer) in steps {
+        assert_eq!(rt; engine.perform(ranks, *call), *answer, "{name}");
+    }
+}
+
 fn lock_32<T: Table>(rt: &impl Abort, engine: &mut Engine<T>, ranks: &mut [Grade]) {
-    assert_eq!(rt;
-        engine.perform(ranks, Call::Begin(CLIENT, Grade(1))),
-        Answer::Done
+    play(
+        rt,
+        "begin",
+        engine,
+        ranks,
+        &[(Call::Begin(CLIENT, Grade(1)), Answer::Done)],
     );
     for element in 0..32 {
-        assert_eq!(rt;
-            engine.perform(ranks, Call::Lock(CLIENT, LockKind::Read, Element(element))),
-            Answer::Done
-        );
+        let lock = Call::Lock(CLIENT, LockKind::Read, Element(element));
+        play(rt, "32 locks", engine, ranks, &[(lock, Answer::Done)]);
     }
 }
 
 // A 33rd lock is refused; a lock that is held already, or gains writing, is no further one.
+const ONE_MORE: [(Call<Grade>, Answer); 3] = [
+    (
+        Call::Lock(CLIENT, LockKind::Read, Element(32)),
+        Answer::Refused(Refusal::TooManyLocks),
+    ),
+    (
+        Call::Lock(CLIENT, LockKind::Read, Element(31)),
+        Answer::Done,
+    ),
+    (
+        Call::Lock(CLIENT, LockKind::Write, Element(31)),
+        Answer::Done,
+    ),
+];
+
 fn one_more<T: Table>(rt: &impl Abort, engine: &mut Engine<T>, ranks: &mut [Grade]) {
     lock_32(rt, engine, ranks);
-    assert_eq!(rt;
-        engine.perform(ranks, Call::Lock(CLIENT, LockKind::Read, Element(32))),
-        Answer::Refused(Refusal::TooManyLocks)
-    );
-    assert_eq!(rt;
-        engine.perform(ranks, Call::Lock(CLIENT, LockKind::Read, Element(31))),
-        Answer::Done
-    );
-    assert_eq!(rt;
-        engine.perform(ranks, Call::Lock(CLIENT, LockKind::Write, Element(31))),
-        Answer::Done
-    );
+    play(rt, "one more", engine, ranks, &ONE_MORE);
 }
 
 #[test]
@@ -45,58 +63,51 @@ fn at_most_32_locks(rt: HostRuntime) {
     drop(engine.close());
 }
 
-fn too_few_ranks<T: Table>(rt: &impl Abort, engine: &mut Engine<T>) {
-    let mut ranks = [Grade(0); 15];
-    assert_eq!(rt;
-        engine.perform(&mut ranks, Call::Begin(CLIENT, Grade(1))),
+const TOO_FEW_RANKS: [(Call<Grade>, Answer); 3] = [
+    (
+        Call::Begin(CLIENT, Grade(1)),
         Answer::Refused(Refusal::RankListTooShort),
-        "15 ranks"
-    );
-    assert_eq!(rt;
-        engine.perform(&mut ranks, Call::Lock(CLIENT, LockKind::Read, Element(0))),
+    ),
+    (
+        Call::Lock(CLIENT, LockKind::Read, Element(0)),
         Answer::Refused(Refusal::RankListTooShort),
-        "15 ranks"
-    );
-    assert_eq!(rt;
-        engine.perform(&mut ranks, Call::Begin(Client(16), Grade(1))),
+    ),
+    (
+        Call::Begin(Client(16), Grade(1)),
         Answer::Refused(Refusal::ClientOutOfRange),
-        "15 ranks"
-    );
-}
+    ),
+];
 
-fn past_the_last<T: Table>(rt: &impl Abort, engine: &mut Engine<T>) {
-    let mut ranks = [Grade(0); 16];
-    assert_eq!(rt;
-        engine.perform(&mut ranks, Call::Begin(Client(15), Grade(1))),
-        Answer::Done,
-        "past the last"
-    );
-    assert_eq!(rt;
-        engine.perform(&mut ranks, Call::Begin(Client(16), Grade(1))),
+const PAST_THE_LAST: [(Call<Grade>, Answer); 4] = [
+    (Call::Begin(Client(15), Grade(1)), Answer::Done),
+    (
+        Call::Begin(Client(16), Grade(1)),
         Answer::Refused(Refusal::ClientOutOfRange),
-        "past the last"
-    );
-    assert_eq!(rt;
-        engine.perform(&mut ranks, Call::Bind(Pointer(63), Element(0))),
-        Answer::Done,
-        "past the last"
-    );
-    assert_eq!(rt;
-        engine.perform(&mut ranks, Call::Bind(Pointer(64), Element(0))),
+    ),
+    (Call::Bind(Pointer(63), Element(0)), Answer::Done),
+    (
+        Call::Bind(Pointer(64), Element(0)),
         Answer::Refused(Refusal::PointerOutOfRange),
-        "past the last"
-    );
-}
-
-fn edges<T: Table>(rt: &impl Abort, engine: &mut Engine<T>) {
-    too_few_ranks(rt, engine);
-    past_the_last(rt, engine);
-}
+    ),
+];
 
 #[test]
 fn ranks_clients_and_pointers(rt: HostRuntime) {
     let mut entries = [7];
     let mut engine = Engine::open(NumberList::new(&mut entries));
-    edges(&rt, &mut engine);
+    play(
+        &rt,
+        "15 ranks",
+        &mut engine,
+        &mut [Grade(0); 15],
+        &TOO_FEW_RANKS,
+    );
+    play(
+        &rt,
+        "past the last",
+        &mut engine,
+        &mut [Grade(0); 16],
+        &PAST_THE_LAST,
+    );
     drop(engine.close());
 }

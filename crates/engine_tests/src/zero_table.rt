@@ -31,9 +31,7 @@ impl Table for ZeroTable {
     }
 
     fn put(&mut self, element: Element, number: i64) -> Result<(), Refusal> {
-        if element.0 >= 3 {
-            return Err(Refusal::NoSuchElement);
-        }
+        self.get(element)?;
         if number != 0 {
             return Err(Refusal::NumberOutsideLimits);
         }

@@ -1,7 +1,10 @@
 // One rescaling from beginning to end, while the mixer reads, a scale writes and a second planner tries.
 #![tactic(auto)]
 
-ghost use Rattle.std.specs.Prelude.{◌≡◌};
+ghost use Rattle.std.specs.Prelude.{◌≡◌, [], ◌∷◌, ◌++◌, vec_len, IfOk, pos, ◌*ℤ◌, int_div, FitsSigned};
+ghost use Rattle.std.specs.Int.{w64};
+ghost use Rattle.std.specs.Option.{SomeIff};
+ghost use Rattle.shift.specs.Log.{IsLog};
 
 mod order;
 mod record;
@@ -14,7 +17,7 @@ use ranks::{Client, Grade};
 use record::Event;
 use rules::{Answer, Call, LockKind, Pointer};
 use std::io;
-use words::Line;
+use words::Words;
 
 const FIRST: Client = Client(1);
 
@@ -32,106 +35,133 @@ const EGGS: Element = Element(2);
 
 const SALT: Element = Element(3);
 
+const PREPARATION: [Call<Grade>; 5] = [
+    Call::Bind(MIXER, WATER),
+    Call::Bind(SCALE, EGGS),
+    Call::HardRead(MIXER),
+    Call::Begin(FIRST, Grade(5)),
+    Call::Begin(SECOND, Grade(3)),
+];
+
+// While the first planner holds everything, the second one tries, and the mixer reads.
+const MEANWHILE: [Call<Grade>; 2] = [
+    Call::Lock(SECOND, LockKind::Write, FLOUR),
+    Call::HardRead(MIXER),
+];
+
+// The scale writes between two of the write backs, and the mixer and the scale read.
+const FINISH: [Call<Grade>; 9] = [
+    Call::Commit(FIRST),
+    Call::WriteBack(FIRST),
+    Call::HardWrite(SCALE, 355),
+    Call::WriteBack(FIRST),
+    Call::HardRead(MIXER),
+    Call::WriteBack(FIRST),
+    Call::WriteBack(FIRST),
+    Call::HardRead(SCALE),
+    Call::End(FIRST),
+];
+
+const LOOK_AFTER: [Call<Grade>; 3] = [
+    Call::HardRead(MIXER),
+    Call::Commit(SECOND),
+    Call::Clear(SECOND),
+];
+
 // The engine with the host's rank list, and all calls so far with their answers.
 struct Host<'a> {
+    rt: &'a HostRuntime,
     engine: Engine<NumberList<'a>>,
     ranks: [Grade; 16],
     log: Vec<Event>,
+    ghost moments: { IsLog log.items },
 }
 
-impl Host<'_> {
+impl<'a> Host<'a> {
+    fn open(rt: &'a HostRuntime, numbers: &'a mut [i32]) -> Host<'a>
+        ensures { result.log.items ≡ [] }
+    {
+        Host {
+            rt,
+            engine: Engine::open(NumberList::new(numbers)),
+            ranks: [Grade(0); 16],
+            log: Vec::new(rt.alloc()),
+        }
+    }
+
     // Makes a call, and says it with its answer.
-    fn perform(&mut self, rt: &HostRuntime, call: Call<Grade>) -> io::Result<Answer> {
+    fn perform(&mut self, call: Call<Grade>) -> io::Result<Answer>
+        ensures { IfOk result (λ answer. self.new.log.items
+            ≡ self.old.log.items
+            ++ record { moment = vec_len self.old.log; call = call; answer = answer } ∷ []) }
+    {
         let answer = self.engine.perform(&mut self.ranks, call);
-        let event = Event { call, answer };
-        let line = Line {
+        let event = Event {
             moment: self.log.len(),
-            event,
+            call,
+            answer,
         };
         self.log.push(event)?;
-        println!(rt; "{line}")?;
+        println!(self.rt; "{event}")?;
         Ok(answer)
+    }
+
+    fn perform_each(&mut self, calls: &[Call<Grade>]) -> io::Result<()> {
+        for call in calls {
+            self.perform(*call)?;
+        }
+        Ok(())
+    }
+
+    fn rescale(&mut self, element: Element) -> io::Result<()> {
+        self.perform(Call::Lock(FIRST, LockKind::Write, element))?;
+        if let Answer::Number(number) = self.perform(Call::Read(FIRST, element))?
+            && let Some(written) = rescaled(number)
+        {
+            self.perform(Call::Change(FIRST, element, written))?;
+        }
+        Ok(())
+    }
+
+    fn perform_all(&mut self) -> io::Result<()> {
+        self.perform_each(&PREPARATION)?;
+        for element in [FLOUR, WATER, EGGS, SALT] {
+            self.rescale(element)?;
+        }
+        self.perform_each(&MEANWHILE)?;
+        self.perform_each(&FINISH)?;
+        self.perform_each(&LOOK_AFTER)
+    }
+
+    // The numbers are left as the table has them; gives the log.
+    fn close(self) -> Vec<Event>
+        ensures { result ≡ self.entry.log }
+    {
+        let Host {
+            rt: _,
+            engine,
+            ranks: _,
+            log,
+        } = self;
+        drop(engine.close());
+        log
     }
 }
 
 // A number 3 to 2, where it has one.
-fn rescaled(number: i64) -> Option<i64> {
-    match number.checked_mul(3) {
-        Some(triple) => Some(triple / 2),
-        None => None,
-    }
+fn rescaled(number: i64) -> Option<i64>
+    ensures { SomeIff result (FitsSigned w64 (number *ℤ pos 3)) (int_div (number *ℤ pos 3) (pos 2)) }
+{
+    number.checked_mul(3).map(|triple| triple / 2)
 }
 
-fn rescale(rt: &HostRuntime, host: &mut Host, element: Element) -> io::Result<()> {
-    host.perform(rt, Call::Lock(FIRST, LockKind::Write, element))?;
-    if let Answer::Number(number) = host.perform(rt, Call::Read(FIRST, element))? {
-        if let Some(written) = rescaled(number) {
-            host.perform(rt, Call::Change(FIRST, element, written))?;
-        }
-    }
-    Ok(())
-}
-
-fn prepare(rt: &HostRuntime, host: &mut Host) -> io::Result<()> {
-    host.perform(rt, Call::Bind(MIXER, WATER))?;
-    host.perform(rt, Call::Bind(SCALE, EGGS))?;
-    host.perform(rt, Call::HardRead(MIXER))?;
-    host.perform(rt, Call::Begin(FIRST, Grade(5)))?;
-    host.perform(rt, Call::Begin(SECOND, Grade(3)))?;
-    Ok(())
-}
-
-fn work(rt: &HostRuntime, host: &mut Host) -> io::Result<()> {
-    rescale(rt, host, FLOUR)?;
-    rescale(rt, host, WATER)?;
-    rescale(rt, host, EGGS)?;
-    rescale(rt, host, SALT)?;
-    host.perform(rt, Call::Lock(SECOND, LockKind::Write, FLOUR))?;
-    host.perform(rt, Call::HardRead(MIXER))?;
-    Ok(())
-}
-
-fn finish(rt: &HostRuntime, host: &mut Host) -> io::Result<()> {
-    host.perform(rt, Call::Commit(FIRST))?;
-    host.perform(rt, Call::WriteBack(FIRST))?;
-    host.perform(rt, Call::HardWrite(SCALE, 355))?;
-    host.perform(rt, Call::WriteBack(FIRST))?;
-    host.perform(rt, Call::HardRead(MIXER))?;
-    host.perform(rt, Call::WriteBack(FIRST))?;
-    host.perform(rt, Call::WriteBack(FIRST))?;
-    host.perform(rt, Call::HardRead(SCALE))?;
-    host.perform(rt, Call::End(FIRST))?;
-    Ok(())
-}
-
-fn look_after(rt: &HostRuntime, host: &mut Host) -> io::Result<()> {
-    host.perform(rt, Call::HardRead(MIXER))?;
-    host.perform(rt, Call::Commit(SECOND))?;
-    host.perform(rt, Call::Clear(SECOND))?;
-    Ok(())
-}
-
-fn all(rt: &HostRuntime, host: &mut Host) -> io::Result<()> {
-    prepare(rt, host)?;
-    work(rt, host)?;
-    finish(rt, host)?;
-    look_after(rt, host)
-}
-
-// All calls over the batch's numbers, which are left as the table has them in the end; gives the log.
-fn perform_all(rt: &HostRuntime, numbers: &mut [i32]) -> io::Result<Vec<Event>> {
-    let mut host = Host {
-        engine: Engine::open(NumberList::new(numbers)),
-        ranks: [Grade(0); 16],
-        log: Vec::new(rt.alloc()),
-    };
-    let outcome = all(rt, &mut host);
-    let Host {
-        engine,
-        ranks: _,
-        log,
-    } = host;
-    drop(engine.close());
+// All calls over the batch's numbers; gives the log.
+fn log_of_all(rt: &HostRuntime, numbers: &mut [i32]) -> io::Result<Vec<Event>>
+    ensures { IfOk result (λ log. IsLog log.items) }
+{
+    let mut host = Host::open(rt, numbers);
+    let outcome = host.perform_all();
+    let log = host.close();
     outcome?;
     Ok(log)
 }
@@ -145,25 +175,19 @@ fn engine_size() -> usize
 
 fn show_order(rt: &HostRuntime, log: &[Event]) -> io::Result<()> {
     println!(rt; "The order in which the finished rescaling and the accesses count:")?;
-    for moment in order_of(rt.alloc(), log)? {
-        if moment < log.len() {
-            let event = log[moment];
-            let line = Line { moment, event };
-            println!(rt; "{line}")?;
-        }
+    for event in order_of(rt.alloc(), log)? {
+        println!(rt; "{event}")?;
     }
     Ok(())
 }
 
 fn main(rt: HostRuntime) -> io::Result<()> {
     let mut numbers = [12_000, 7_440, 360, 480];
-    let [flour, water, eggs, salt] = numbers;
-    println!(rt;
-        "Planner 1 rescales a batch 3 to 2: flour {flour}, water {water}, eggs {eggs}, salt {salt}."
-    )?;
-    let log = perform_all(&rt, &mut numbers)?;
-    let [flour, water, eggs, salt] = numbers;
-    println!(rt; "The numbers: flour {flour}, water {water}, eggs {eggs}, salt {salt}.")?;
+    let batch = Words(numbers);
+    println!(rt; "Planner 1 rescales a batch 3 to 2: {batch}.")?;
+    let log = log_of_all(&rt, &mut numbers)?;
+    let batch = Words(numbers);
+    println!(rt; "The numbers: {batch}.")?;
     show_order(&rt, log.as_slice())?;
     let size = engine_size();
     println!(rt; "The engine takes {size} bytes beside the numbers.")

@@ -1,269 +1,245 @@
 // The record of a log: which transaction holds what, what is marked, which pointer is tied where.
 // It is kept by calls and answers alone.
-ghost use Rattle.std.specs.Prelude.{◌≡◌, ◌<◌, true, false, ◌&&◌, ◌==◌, slice_index, slice_set};
-ghost use Rattle.rules.specs.State.{is_write};
-ghost use Rattle.rules.specs.declared.Answer.TheVariants.{Done, Number, WroteBack, Wait, Lost, Refused};
+ghost use Rattle.std.specs.Prelude.{◌≡◌, false, true, [], not, ◌==◌, ◌||◌, ◌&&◌, filter, OnOk, IfOk, IfSome, IfNone, MatchBool};
+ghost use Rattle.std.specs.Ordering.{nat_cmp};
+ghost use Rattle.std.specs.List.{list_any, filter_map};
+ghost use Rattle.std.specs.BTreeMap as tree;
+ghost use Rattle.std.specs.BTreeSet as set;
+ghost use Rattle.shift.specs.Record.{is_on, is_of, is_locked, is_marked, kind_of, conflicts, losers, left_by, with_lock, Begins, Grants, Leaves, Marks, Notes, Ties};
 
 use plant::Element;
 use ranks::{Client, Grade};
 use rules::{Answer, Call, LockKind, Pointer};
 use std::alloc::{AllocError, Global};
+use std::collections::{BTreeMap, BTreeSet};
 
-// One call with its answer; its moment is its place in the log.
+// A call with its answer, and its moment: how many calls came before it.
 #[derive(Clone, Copy)]
 pub struct Event {
+    pub moment: usize,
     pub call: Call<Grade>,
     pub answer: Answer,
 }
 
-// A client's lock on an element, in the transaction that began at a moment.
+// A client's lock on an element.
 #[derive(Clone, Copy)]
 pub struct Holding {
     client: Client,
-    begun: usize,
     element: Element,
     kind: LockKind,
-    held: bool,
 }
 
-// An access, and a transaction behind whose end it belongs, by their moments.
-#[derive(Clone, Copy)]
-pub struct Behind {
-    pub access: usize,
-    pub begun: usize,
-}
-
+// A transaction is named by the moment of its begin: that of a client's latest one stands in begun. The maps and
+// the set go by the numbers of clients, elements and pointers.
 #[derive(Drop)]
 pub struct Record {
-    begun: [usize; 16],
+    begun: BTreeMap<u16, usize>,
     holdings: Vec<Holding>,
-    marked: [bool; 256],
-    ties: [Option<Element>; 64],
+    marked: BTreeSet<u16>,
+    ties: BTreeMap<u16, Element>,
+    heap: Global,
 }
 
 impl Holding {
-    fn is_on(&self, element: Element) -> bool
-        ensures { result ≡ (self.now.held && self.now.element.0 == element.0) }
-    {
-        self.held && self.element.0 == element.0
-    }
-
     fn is_of(&self, client: Client, element: Element) -> bool
-        ensures { result ≡ ((self.now.held && self.now.element.0 == element.0) && self.now.client.0 == client.0) }
+        ensures { result ≡ is_of client.0 element.0 self.now }
     {
-        self.is_on(element) && self.client.0 == client.0
+        self.client == client && self.element == element
     }
-}
 
-fn is_write(kind: LockKind) -> bool
-    ensures { result ≡ is_write kind }
-{
-    match kind {
-        LockKind::Read => false,
-        LockKind::Write => true,
-    }
-}
-
-pub fn is_done(answer: Answer) -> bool
-    ensures { elim answer [ Done ↦ result ≡ true | Number v ↦ result ≡ false | WroteBack e f ↦ result ≡ false | Wait ↦ result ≡ false | Lost ↦ result ≡ false | Refused n ↦ result ≡ false ] }
-{
-    match answer {
-        Answer::Done => true,
-        _ => false,
+    // Whether another client's granted lock throws this one's client out.
+    fn conflicts(&self, granted: &Holding, marked: bool) -> bool
+        ensures { result ≡ conflicts marked granted.now self.now }
+    {
+        self.element == granted.element
+            && self.client != granted.client
+            && (granted.kind == LockKind::Write || self.kind == LockKind::Write || marked)
     }
 }
 
 impl Record {
     // Before the first call.
-    pub fn new(heap: Global) -> Record {
+    pub fn new(heap: Global) -> Record
+        ensures begun { tree.IsEmpty result.begun }
+        ensures holdings { result.holdings.items ≡ [] }
+        ensures marked { set.IsEmpty result.marked }
+        ensures ties { tree.IsEmpty result.ties }
+    {
         Record {
-            begun: [0; 16],
+            begun: BTreeMap::new(heap),
             holdings: Vec::new(heap),
-            marked: [false; 256],
-            ties: [None; 64],
+            marked: BTreeSet::new(heap),
+            ties: BTreeMap::new(heap),
+            heap,
         }
     }
 
-    // One more event, at its moment.
-    pub fn note(&mut self, moment: usize, event: &Event) -> Result<(), AllocError> {
-        if !is_done(event.answer) {
-            self.note_loss(event);
-            return Ok(());
-        }
-        match event.call {
-            Call::Begin(client, _) => self.begin(moment, client),
-            Call::Lock(client, kind, element) => return self.grant(client, kind, element),
-            Call::End(client) => self.leave(client),
-            Call::GiveUp(client) => self.leave(client),
-            Call::Bind(pointer, element) => self.tie(pointer, Some(element)),
-            Call::Remove(pointer) => self.tie(pointer, None),
-            Call::HardWrite(pointer, _) => self.mark_through(pointer),
+    // One more event. A client whose lock is lost is thrown out.
+    pub fn note(&mut self, event: &Event) -> Result<(), AllocError>
+        ensures { OnOk result (Notes self.old event.now self.new) }
+    {
+        match (event.call, event.answer) {
+            (Call::Begin(client, _), Answer::Done) => self.begin(event.moment, client)?,
+            (Call::Lock(client, kind, element), Answer::Done) => self.grant(Holding {
+                client,
+                element,
+                kind,
+            })?,
+            (Call::Lock(client, _, _), Answer::Lost) => self.leave(client),
+            (Call::End(client) | Call::GiveUp(client), Answer::Done) => self.leave(client),
+            (Call::Bind(pointer, element), Answer::Done) => self.tie(pointer, element)?,
+            (Call::Remove(pointer), Answer::Done) => self.untie(pointer),
+            (Call::HardWrite(pointer, _), Answer::Done) => self.mark_through(pointer)?,
             _ => {}
         }
         Ok(())
     }
 
-    // A client whose lock is lost is thrown out.
-    fn note_loss(&mut self, event: &Event) {
-        if let (Call::Lock(client, _, _), Answer::Lost) = (event.call, event.answer) {
-            self.leave(client);
-        }
-    }
-
-    fn begin(&mut self, moment: usize, client: Client)
-        ensures { client.0 < 16 → self.new.begun ≡ slice_set self.old.begun client.0 moment }
+    fn begin(&mut self, moment: usize, client: Client) -> Result<(), AllocError>
+        ensures { OnOk result (Begins self.old client.0 moment self.new) }
     {
-        let c = client.0 as usize;
-        if c < 16 {
-            self.begun[c] = moment;
-        }
+        self.begun.insert(client.0, moment)?;
+        Ok(())
     }
 
     // The moment at which the client's latest transaction began.
-    pub fn begun_by(&self, client: Client) -> usize
-        ensures { client.0 < 16 → result ≡ slice_index self.now.begun client.0 }
+    pub fn begun_by(&self, client: Client) -> Option<usize>
+        ensures { result ≡ tree.get nat_cmp self.now.begun client.0 }
     {
-        let c = client.0 as usize;
-        if c < 16 { self.begun[c] } else { 0 }
+        self.begun.get(&client.0).copied()
     }
 
-    fn kind_of(&self, client: Client, element: Element) -> Option<LockKind> {
-        for holding in self.holdings.as_slice() {
-            if holding.is_of(client, element) {
-                return Some(holding.kind);
-            }
-        }
-        None
-    }
-
-    fn is_locked(&self, element: Element) -> bool {
-        for holding in self.holdings.as_slice() {
-            if holding.is_on(element) {
-                return true;
-            }
-        }
-        false
-    }
-
-    fn is_marked(&self, element: Element) -> bool {
-        let e = element.0 as usize;
-        e < 256 && self.marked[e]
-    }
-
-    fn set_mark(&mut self, element: Element, marked: bool)
-        ensures { element.0 < 256 → self.new.marked ≡ slice_set self.old.marked element.0 marked }
+    fn kind_of(&self, client: Client, element: Element) -> Option<LockKind>
+        ensures { result ≡ kind_of self.now client.0 element.0 }
     {
-        let e = element.0 as usize;
-        if e < 256 {
-            self.marked[e] = marked;
-        }
+        self.holdings
+            .iter()
+            .find(|holding| holding.is_of(client, element))
+            .map(|holding| holding.kind)
+    }
+
+    fn is_locked(&self, element: Element) -> bool
+        ensures { result ≡ is_locked self.now element.0 }
+    {
+        self.holdings
+            .iter()
+            .any(|holding| holding.element == element)
+    }
+
+    pub fn is_marked(&self, element: Element) -> bool
+        ensures { result ≡ is_marked self.now element.0 }
+    {
+        self.marked.contains(&element.0)
     }
 
     // All locks of a client go.
-    fn leave(&mut self, client: Client) {
-        for holding in self.holdings.iter_mut() {
-            if holding.client.0 == client.0 {
-                holding.held = false;
-            }
-        }
-    }
-
-    // A granted lock: who is in conflict with it is thrown out.
-    fn grant(
-        &mut self,
-        client: Client,
-        kind: LockKind,
-        element: Element,
-    ) -> Result<(), AllocError> {
-        let Some(held) = self.kind_of(client, element) else {
-            self.throw_out(client, kind, element);
-            return self.gain(client, kind, element);
-        };
-        if is_write(kind) && !is_write(held) {
-            self.throw_out(client, kind, element);
-            self.raise(client, element);
-        }
-        Ok(())
-    }
-
-    fn throw_out(&mut self, client: Client, kind: LockKind, element: Element) {
-        let marked = self.is_marked(element);
-        for number in 0..16 {
-            let other = Client(number);
-            if let Some(held) = self.kind_of(other, element) {
-                if number != client.0 && (marked || is_write(kind) || is_write(held)) {
-                    self.leave(other);
-                }
-            }
-        }
-    }
-
-    // A new lock; the mark goes if nobody else holds the element.
-    fn gain(&mut self, client: Client, kind: LockKind, element: Element) -> Result<(), AllocError> {
-        if !self.is_locked(element) {
-            self.set_mark(element, false);
-        }
-        let begun = self.begun_by(client);
-        self.holdings.push(Holding {
-            client,
-            begun,
-            element,
-            kind,
-            held: true,
-        })?;
-        Ok(())
-    }
-
-    // A reader gains the write lock; the mark stays.
-    fn raise(&mut self, client: Client, element: Element) {
-        for holding in self.holdings.iter_mut() {
-            if holding.is_of(client, element) {
-                holding.kind = LockKind::Write;
-            }
-        }
-    }
-
-    fn tie(&mut self, pointer: Pointer, tie: Option<Element>)
-        ensures { pointer.0 < 64 → self.new.ties ≡ slice_set self.old.ties pointer.0 tie }
+    fn leave(&mut self, client: Client)
+        ensures { Leaves self.old client.0 self.new }
     {
-        let p = pointer.0 as usize;
-        if p < 64 {
-            self.ties[p] = tie;
+        self.holdings.retain(|holding| holding.client != client);
+    }
+
+    // A granted lock, unless the client's present one covers it: who is in conflict with it is thrown out.
+    fn grant(&mut self, granted: Holding) -> Result<(), AllocError>
+        ensures { OnOk result (Grants self.old granted self.new) }
+    {
+        let held = self.kind_of(granted.client, granted.element);
+        if held == Some(LockKind::Write) || held == Some(granted.kind) {
+            return Ok(());
+        }
+        self.throw_out(&granted)?;
+        self.unmark_if_free(granted.element);
+        self.hold(granted)
+    }
+
+    // The clients in conflict with a granted lock.
+    fn losers(&self, granted: &Holding) -> Result<Vec<Client>, AllocError>
+        ensures { IfOk result (λ v. v.items ≡ losers self.now granted.now) }
+    {
+        let marked = self.is_marked(granted.element);
+        self.holdings
+            .iter()
+            .filter(|holding| holding.conflicts(granted, marked))
+            .map(|holding| holding.client)
+            .collect(self.heap)
+    }
+
+    // They lose all their locks.
+    fn throw_out(&mut self, granted: &Holding) -> Result<(), AllocError>
+        ensures holdings { OnOk result (self.new.holdings.items ≡ left_by self.old granted.now) }
+        ensures others { self.new ≡ record self.old { holdings = self.new.holdings } }
+    {
+        let losers = self.losers(granted)?;
+        self.holdings
+            .retain(|holding| !losers.contains(&holding.client));
+        Ok(())
+    }
+
+    // The mark goes with a new lock if nobody holds the element; a reader that gains the write lock keeps it.
+    fn unmark_if_free(&mut self, element: Element)
+        ensures mark { MatchBool (is_locked self.old element.0)
+            (set.IsUnchanged self.old.marked self.new.marked)
+            (set.Updates nat_cmp self.old.marked self.new.marked element.0 false) }
+        ensures others { self.new ≡ record self.old { marked = self.new.marked } }
+    {
+        if !self.is_locked(element) {
+            self.marked.remove(&element.0);
         }
     }
 
-    pub fn tie_of(&self, pointer: Pointer) -> Option<Element> {
-        let p = pointer.0 as usize;
-        if p < 64 { self.ties[p] } else { None }
+    // In place of what the client held.
+    fn hold(&mut self, granted: Holding) -> Result<(), AllocError>
+        ensures holdings { OnOk result
+            (self.new.holdings.items ≡ with_lock granted self.old.holdings.items) }
+        ensures others { self.new ≡ record self.old { holdings = self.new.holdings } }
+    {
+        self.holdings
+            .retain(|holding| !holding.is_of(granted.client, granted.element));
+        self.holdings.push(granted)?;
+        Ok(())
+    }
+
+    fn tie(&mut self, pointer: Pointer, element: Element) -> Result<(), AllocError>
+        ensures { OnOk result (Ties self.old pointer.0 (Some element) self.new) }
+    {
+        self.ties.insert(pointer.0, element)?;
+        Ok(())
+    }
+
+    fn untie(&mut self, pointer: Pointer)
+        ensures { Ties self.old pointer.0 None self.new }
+    {
+        self.ties.remove(&pointer.0);
+    }
+
+    pub fn tie_of(&self, pointer: Pointer) -> Option<Element>
+        ensures { result ≡ tree.get nat_cmp self.now.ties pointer.0 }
+    {
+        self.ties.get(&pointer.0).copied()
     }
 
     // A hard write marks its element if that is locked.
-    fn mark_through(&mut self, pointer: Pointer) {
-        if let Some(element) = self.tie_of(pointer) {
-            if self.is_locked(element) {
-                self.set_mark(element, true);
-            }
-        }
-    }
-
-    // Lists the transactions behind which an access belongs: all that hold the element, if it is marked.
-    pub fn list_holders(
-        &self,
-        access: usize,
-        element: Element,
-        behinds: &mut Vec<Behind>,
-    ) -> Result<(), AllocError> {
-        if !self.is_marked(element) {
-            return Ok(());
-        }
-        for holding in self.holdings.as_slice() {
-            if holding.is_on(element) {
-                behinds.push(Behind {
-                    access,
-                    begun: holding.begun,
-                })?;
-            }
+    fn mark_through(&mut self, pointer: Pointer) -> Result<(), AllocError>
+        ensures { OnOk result (Marks self.old pointer.0 self.new) }
+    {
+        if let Some(element) = self.tie_of(pointer)
+            && self.is_locked(element)
+        {
+            self.marked.insert(element.0)?;
         }
         Ok(())
+    }
+
+    // The transactions that hold an element, by the moments of their begins.
+    pub fn holders_of(&self, element: Element) -> Result<Vec<usize>, AllocError>
+        ensures { IfOk result (λ begun. begun.items
+            ≡ filter_map (λ h. tree.get nat_cmp self.now.begun h.client.0)
+            (filter (is_on element.0) self.now.holdings.items)) }
+    {
+        self.holdings
+            .iter()
+            .filter(|holding| holding.element == element)
+            .filter_map(|holding| self.begun_by(holding.client))
+            .collect(self.heap)
     }
 }

@@ -1,153 +1,130 @@
-// Calls and answers in words.
+// Events and numbers in words.
 use super::record::Event;
+use super::{EGGS, FLOUR, MIXER, SALT, SCALE, WATER};
 use plant::Element;
-use ranks::Grade;
+use ranks::{Client, Grade};
 use rules::{Answer, Call, Fate, LockKind, Pointer};
 use std::fmt;
 
-// One event with its moment.
+// What a value is called in the bakery.
 #[derive(Clone, Copy)]
-pub struct Line {
-    pub moment: usize,
-    pub event: Event,
-}
+pub struct Words<T>(pub T);
 
-#[derive(Clone, Copy)]
-struct Called(Call<Grade>);
-
-#[derive(Clone, Copy)]
-struct Answered(Answer);
-
-impl fmt::Display for Line {
+impl fmt::Display for Event {
     fn fmt<W: fmt::Write>(&self, f: &mut fmt::Formatter<W>) -> fmt::Result {
-        let moment = self.moment;
-        let call = Called(self.event.call);
-        let answer = Answered(self.event.answer);
-        write!(f, "{moment:>2}: {call}: {answer}")
+        write!(
+            f,
+            "{:>2}: {}: {}",
+            self.moment,
+            Words(self.call),
+            Words(self.answer)
+        )
     }
 }
 
-// The elements of the batch.
-pub fn element_name(element: Element) -> &'static str {
-    match element.0 {
-        0 => "flour",
-        1 => "water",
-        2 => "eggs",
-        3 => "salt",
-        _ => "another element",
-    }
-}
-
-fn task_name(pointer: Pointer) -> &'static str {
-    match pointer.0 {
-        0 => "the mixer",
-        1 => "the scale",
-        _ => "another task",
-    }
-}
-
-fn aim(kind: LockKind) -> &'static str {
-    match kind {
-        LockKind::Read => "reading",
-        LockKind::Write => "writing",
-    }
-}
-
-// What a client does, with no number in it.
-fn client_move(call: Call<Grade>) -> Option<(u16, &'static str)> {
-    match call {
-        Call::Commit(client) => Some((client.0, "commits")),
-        Call::WriteBack(client) => Some((client.0, "writes back")),
-        Call::End(client) => Some((client.0, "ends")),
-        Call::GiveUp(client) => Some((client.0, "gives up")),
-        Call::Clear(client) => Some((client.0, "clears")),
-        _ => None,
-    }
-}
-
-impl fmt::Display for Called {
+// The numbers of the batch.
+impl fmt::Display for Words<[i32; 4]> {
     fn fmt<W: fmt::Write>(&self, f: &mut fmt::Formatter<W>) -> fmt::Result {
-        if let Some((client, does)) = client_move(self.0) {
-            return write!(f, "planner {client} {does}");
-        }
-        match self.0 {
-            Call::Bind(pointer, element) => {
-                let task = task_name(pointer);
-                let name = element_name(element);
-                write!(f, "{task} is bound to {name}")
-            }
-            Call::Remove(pointer) => {
-                let task = task_name(pointer);
-                write!(f, "{task} is untied")
-            }
-            Call::HardRead(pointer) => {
-                let task = task_name(pointer);
-                write!(f, "{task} reads")
-            }
-            Call::HardWrite(pointer, written) => {
-                let task = task_name(pointer);
-                write!(f, "{task} writes {written}")
-            }
-            call => {
-                let work = Work(call);
-                write!(f, "{work}")
-            }
-        }
+        let [flour, water, eggs, salt] = self.0;
+        write!(f, "flour {flour}, water {water}, eggs {eggs}, salt {salt}")
     }
 }
 
-// What a client does to an element, and its begin.
-#[derive(Clone, Copy)]
-struct Work(Call<Grade>);
+impl fmt::Display for Words<Client> {
+    fn fmt<W: fmt::Write>(&self, f: &mut fmt::Formatter<W>) -> fmt::Result {
+        let Client(number) = self.0;
+        write!(f, "planner {number}")
+    }
+}
 
-impl fmt::Display for Work {
+impl fmt::Display for Words<Element> {
+    fn fmt<W: fmt::Write>(&self, f: &mut fmt::Formatter<W>) -> fmt::Result {
+        f.write_str(match self.0 {
+            FLOUR => "flour",
+            WATER => "water",
+            EGGS => "eggs",
+            SALT => "salt",
+            _ => "another element",
+        })
+    }
+}
+
+impl fmt::Display for Words<Pointer> {
+    fn fmt<W: fmt::Write>(&self, f: &mut fmt::Formatter<W>) -> fmt::Result {
+        f.write_str(match self.0 {
+            MIXER => "the mixer",
+            SCALE => "the scale",
+            _ => "another task",
+        })
+    }
+}
+
+impl fmt::Display for Words<LockKind> {
+    fn fmt<W: fmt::Write>(&self, f: &mut fmt::Formatter<W>) -> fmt::Result {
+        f.write_str(match self.0 {
+            LockKind::Read => "reading",
+            LockKind::Write => "writing",
+        })
+    }
+}
+
+impl fmt::Display for Words<Fate> {
+    fn fmt<W: fmt::Write>(&self, f: &mut fmt::Formatter<W>) -> fmt::Result {
+        f.write_str(match self.0 {
+            Fate::Written => "written",
+            Fate::Dropped => "dropped",
+        })
+    }
+}
+
+impl fmt::Display for Words<Call<Grade>> {
     fn fmt<W: fmt::Write>(&self, f: &mut fmt::Formatter<W>) -> fmt::Result {
         match self.0 {
-            Call::Begin(client, rank) => {
-                let client = client.0;
-                let grade = rank.0;
-                write!(f, "planner {client} begins with grade {grade}")
-            }
-            Call::Lock(client, kind, element) => {
-                let client = client.0;
-                let name = element_name(element);
-                let aim = aim(kind);
-                write!(f, "planner {client} locks {name} for {aim}")
-            }
-            Call::Read(client, element) => {
-                let client = client.0;
-                let name = element_name(element);
-                write!(f, "planner {client} reads {name}")
-            }
-            Call::Change(client, element, written) => {
-                let client = client.0;
-                let name = element_name(element);
-                write!(f, "planner {client} changes {name} to {written}")
-            }
-            _ => Ok(()),
+            Call::Begin(client, Grade(grade)) => write!(
+                f,
+                "{} begins with grade {grade}",
+                Words(client)
+            ),
+            Call::Lock(client, kind, element) => write!(
+                f,
+                "{} locks {} for {}",
+                Words(client),
+                Words(element),
+                Words(kind)
+            ),
+            Call::Read(client, element) => write!(f, "{} reads {}", Words(client), Words(element)),
+            Call::Change(client, element, number) => write!(
+                f,
+                "{} changes {} to {number}",
+                Words(client),
+                Words(element)
+            ),
+            Call::Commit(client) => write!(f, "{} commits", Words(client)),
+            Call::WriteBack(client) => write!(f, "{} writes back", Words(client)),
+            Call::End(client) => write!(f, "{} ends", Words(client)),
+            Call::GiveUp(client) => write!(f, "{} gives up", Words(client)),
+            Call::Clear(client) => write!(f, "{} clears", Words(client)),
+            Call::Bind(pointer, element) => write!(
+                f,
+                "{} is bound to {}",
+                Words(pointer),
+                Words(element)
+            ),
+            Call::Remove(pointer) => write!(f, "{} is untied", Words(pointer)),
+            Call::HardRead(pointer) => write!(f, "{} reads", Words(pointer)),
+            Call::HardWrite(pointer, number) => write!(f, "{} writes {number}", Words(pointer)),
         }
     }
 }
 
-fn fate_word(fate: Fate) -> &'static str {
-    match fate {
-        Fate::Written => "written",
-        Fate::Dropped => "dropped",
-    }
-}
-
-impl fmt::Display for Answered {
+impl fmt::Display for Words<Answer> {
     fn fmt<W: fmt::Write>(&self, f: &mut fmt::Formatter<W>) -> fmt::Result {
         match self.0 {
-            Answer::Done => write!(f, "done"),
+            Answer::Done => f.write_str("done"),
             Answer::Number(number) => write!(f, "{number}"),
-            Answer::WroteBack(element, fate) => {
-                let name = element_name(element);
-                let fate = fate_word(fate);
-                write!(f, "{name} {fate}")
-            }
-            Answer::Wait => write!(f, "wait"),
-            Answer::Lost => write!(f, "lost"),
+            Answer::WroteBack(element, fate) => write!(f, "{} {}", Words(element), Words(fate)),
+            Answer::Wait => f.write_str("wait"),
+            Answer::Lost => f.write_str("lost"),
             Answer::Refused(refusal) => {
                 let number = refusal.number();
                 let words = refusal.words();

@@ -1,0 +1,132 @@
+-- What the record of a log makes of its locks and marks, and of an event.
+use Rattle.std.specs.Prelude.{◌≡◌, IfSome, IfNone, ℤ, ℕ, Bool, cond, false, true, not, ◌&&◌, ◌||◌, ◌==◌, List, [], ◌∷◌, ◌++◌, map, filter, find, Option, Some, None}
+use Rattle.std.specs.Option.{option_map}
+use Rattle.std.specs.Ordering.{nat_cmp}
+use Rattle.std.specs.List.{list_any}
+use Rattle.std.specs.BTreeMap as tree
+use Rattle.std.specs.BTreeSet as set
+use Rattle.plant.specs.declared.tables.Element.{Element}
+use Rattle.plant.specs.declared.refusals.Refusal.{Refusal}
+use Rattle.ranks.specs.declared.Client.{Client}
+use Rattle.ranks.specs.declared.Grade.{Grade}
+use Rattle.rules.specs.State.{is_write}
+use Rattle.rules.specs.Locking.{kinds_conflict}
+use Rattle.rules.specs.declared.LockKind.{LockKind}
+use Rattle.rules.specs.declared.LockKind.TheVariants.{Read, Write}
+use Rattle.rules.specs.declared.Pointer.{Pointer}
+use Rattle.rules.specs.declared.Call.{Call}
+use Rattle.rules.specs.declared.Call.TheVariants.{Begin, Lock, End, GiveUp, Bind, Remove, HardWrite}
+use Rattle.rules.specs.declared.Answer.TheVariants.{Done, Wait, Lost, Refused}
+use Rattle.shift.specs.declared.record.Event.{Event}
+use Rattle.shift.specs.declared.record.Holding.{Holding}
+use Rattle.shift.specs.declared.record.Record.{Record}
+
+-- A lock on the element; the client's lock on the element.
+abbrev pub is_on : ℕ → Holding → Bool
+is_on element h = h.element.0 == element
+
+abbrev pub is_of : ℕ → ℕ → Holding → Bool
+is_of client element h = h.client.0 == client && h.element.0 == element
+
+-- Whether the element is locked; whether it is marked.
+abbrev pub is_locked : Record → ℕ → Bool
+is_locked r element = list_any (is_on element) r.holdings.items
+
+abbrev pub is_marked : Record → ℕ → Bool
+is_marked r element = set.contains nat_cmp r.marked element
+
+-- The kind in which the client holds the element, if it does.
+abbrev pub kind_of : Record → ℕ → ℕ → Option LockKind
+kind_of r client element = option_map (λ h. h.kind) (find (is_of client element) r.holdings.items)
+
+-- A kind that is held covers a request if it is the same, or for writing.
+abbrev pub covers : Option LockKind → LockKind → Bool
+covers None asked = false
+covers (Some held) Read = true
+covers (Some held) Write = is_write held
+
+-- Whether the client's own lock covers what is granted to it.
+abbrev pub is_covered : Record → Holding → Bool
+is_covered r granted = covers (kind_of r granted.client.0 granted.element.0) granted.kind
+
+-- Whether a lock that is granted over a mark throws the client of this one out.
+abbrev pub conflicts : Bool → Holding → Holding → Bool
+conflicts marked granted h =
+    (h.element.0 == granted.element.0 && not (h.client.0 == granted.client.0)) && kinds_conflict marked granted.kind h.kind
+
+-- The clients that a granted lock throws out, and the locks that it leaves.
+abbrev pub losers : Record → Holding → List Client
+losers r granted = map (λ h. h.client) (filter (conflicts (is_marked r granted.element.0) granted) r.holdings.items)
+
+abbrev pub left_by : Record → Holding → List Holding
+left_by r granted = filter (λ h. not (list_any (λ c. c.0 == h.client.0) (losers r granted))) r.holdings.items
+
+-- The locks once the client holds this one.
+abbrev pub with_lock : Holding → List Holding → List Holding
+with_lock granted hs = filter (λ h. not (is_of granted.client.0 granted.element.0 h)) hs ++ granted ∷ []
+
+-- The locks after a grant: none goes or comes where the client's own covers it.
+abbrev pub granted_to : Record → Holding → List Holding
+granted_to r granted = cond (is_covered r granted) r.holdings.items (with_lock granted (left_by r granted))
+
+-- Whether the element's mark stays at a grant: where the client's own lock covers it, or a lock on it is left.
+abbrev pub mark_stays : Record → Holding → Bool
+mark_stays r granted = is_covered r granted || list_any (is_on granted.element.0) (left_by r granted)
+
+-- The locks without those of a client.
+abbrev pub without : ℕ → Record → List Holding
+without client r = filter (λ h. not (h.client.0 == client)) r.holdings.items
+
+-- A transaction of the client begins at the moment.
+pub record Begins (old : Record) (client moment : ℕ) (new : Record) : Type 0 where
+  pub begun : tree.Updates nat_cmp old.begun new.begun client (Some moment)
+  pub others : new ≡ record old { begun = new.begun }
+
+-- The client holds nothing any more.
+pub record Leaves (old : Record) (client : ℕ) (new : Record) : Type 0 where
+  pub holdings : new.holdings.items ≡ without client old
+  pub others : new ≡ record old { holdings = new.holdings }
+
+-- A lock is granted.
+pub record Grants (old : Record) (granted : Holding) (new : Record) : Type 0 where
+  pub holdings : new.holdings.items ≡ granted_to old granted
+  pub mark_kept : mark_stays old granted ≡ true → set.IsUnchanged old.marked new.marked
+  pub mark_gone : mark_stays old granted ≡ false → set.Updates nat_cmp old.marked new.marked granted.element.0 false
+  pub others : new ≡ record old { holdings = new.holdings; marked = new.marked }
+
+-- The pointer is tied to an element, or untied.
+pub record Ties (old : Record) (pointer : ℕ) (tie : Option Element) (new : Record) : Type 0 where
+  pub ties : tree.Updates nat_cmp old.ties new.ties pointer tie
+  pub others : new ≡ record old { ties = new.ties }
+
+-- The element that the pointer is tied to, if it is and if the element is locked, is marked.
+pub record Marks (old : Record) (pointer : ℕ) (new : Record) : Type 0 where
+  pub locked : IfSome (tree.get nat_cmp old.ties pointer) (λ e. is_locked old e.0 ≡ true → set.Updates nat_cmp old.marked new.marked e.0 true)
+  pub free : IfSome (tree.get nat_cmp old.ties pointer) (λ e. is_locked old e.0 ≡ false → set.IsUnchanged old.marked new.marked)
+  pub untied : IfNone (tree.get nat_cmp old.ties pointer) (set.IsUnchanged old.marked new.marked)
+  pub others : new ≡ record old { marked = new.marked }
+
+-- Whether a call that is done can change the record.
+abbrev pub is_noted : Call Grade → Bool
+is_noted (Begin c rank) = true
+is_noted (Lock c kind e) = true
+is_noted (End c) = true
+is_noted (GiveUp c) = true
+is_noted (Bind p e) = true
+is_noted (Remove p) = true
+is_noted (HardWrite p v) = true
+is_noted _ = false
+
+-- What an event makes of the record.
+pub record Notes (old : Record) (event : Event) (new : Record) : Type 0 where
+  pub begun : (c : Client) (rank : Grade) → event.call ≡ Begin c rank → event.answer ≡ Done → Begins old c.0 event.moment new
+  pub granted : (c : Client) (kind : LockKind) (e : Element) → event.call ≡ Lock c kind e → event.answer ≡ Done → Grants old (record { client = c; element = e; kind = kind }) new
+  pub lost : (c : Client) (kind : LockKind) (e : Element) → event.call ≡ Lock c kind e → event.answer ≡ Lost → Leaves old c.0 new
+  pub ended : (c : Client) → event.call ≡ End c → event.answer ≡ Done → Leaves old c.0 new
+  pub given_up : (c : Client) → event.call ≡ GiveUp c → event.answer ≡ Done → Leaves old c.0 new
+  pub bound : (p : Pointer) (e : Element) → event.call ≡ Bind p e → event.answer ≡ Done → Ties old p.0 (Some e) new
+  pub removed : (p : Pointer) → event.call ≡ Remove p → event.answer ≡ Done → Ties old p.0 None new
+  pub written : (p : Pointer) (v : ℤ) → event.call ≡ HardWrite p v → event.answer ≡ Done → Marks old p.0 new
+  pub not_noted : is_noted event.call ≡ false → new ≡ old
+  pub waiting : event.answer ≡ Wait → new ≡ old
+  pub refused : (r : Refusal) → event.answer ≡ Refused r → new ≡ old
