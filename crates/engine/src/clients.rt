@@ -51,7 +51,7 @@ impl<T: Table> Engine<T> {
     fn is_within(&self, written: i64) -> bool
         ensures { result ≡ within (T.meaning self.now.table) written }
     {
-        !(written < self.table.lowest()) & !(self.table.highest() < written)
+        self.table.allows(written)
     }
 
     // The working copy of an element that the client has locked for writing is set.

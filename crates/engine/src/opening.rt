@@ -60,6 +60,6 @@ impl<T: Table> Engine<T> {
         ensures value { result ≡ has_element (T.meaning self.now.table) element.0 }
         ensures small { result ≡ true → element.0 < 256 }
     {
-        element.0 < self.table.count()
+        self.table.has(element)
     }
 }
