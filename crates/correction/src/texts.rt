@@ -5,7 +5,7 @@ ghost use Rattle.correction.specs.Spoken.{ReadsElement, ReadsNumber, line_of};
 use plant::Element;
 use std::alloc::{AllocError, Global};
 
-// What is read is told by two definitions, so these two stay apart.
+// Not one generic function with the next: the body is one line, and each says what its text is.
 pub fn read_element(text: &str) -> Option<Element>
     ensures { ReadsElement text.now result }
 {

@@ -1,5 +1,6 @@
 // A table of three elements that can hold only 0.
 ghost use Rattle.std.specs.Prelude.{◌≡◌, ◌≤◌, length, pos, negsuc, ◌≤ℤ◌};
+ghost use Rattle.std.proofs.Common.{rules};
 ghost use Rattle.plant.specs.Meaning.{get_answer, put_answer, put_meaning};
 ghost use Rattle.engine_tests.specs.Zeros.{zero_meaning};
 
@@ -10,6 +11,8 @@ pub struct ZeroTable;
 
 impl Table for ZeroTable {
     ghost meaning = { λ _. zero_meaning };
+
+    ghost bounded = { λ _. Prim.search rules };
 
     fn count(&self) -> u16 {
         3

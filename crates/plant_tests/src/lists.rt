@@ -36,3 +36,12 @@ fn entries_hold_32_signed_bits(rt: HostRuntime) {
     }
     assert!(rt; entries == [-2_147_483_648, 2_147_483_647]);
 }
+
+#[test]
+fn a_list_has_its_entries_and_allows_32_bits(rt: HostRuntime) {
+    let mut entries = [0, 0];
+    let list = NumberList::new(&mut entries);
+    assert!(rt; list.has(Element(1)) && !list.has(Element(2)));
+    assert!(rt; list.allows(-2_147_483_648) && !list.allows(-2_147_483_649));
+    assert!(rt; list.allows(2_147_483_647) && !list.allows(2_147_483_648));
+}
