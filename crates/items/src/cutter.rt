@@ -21,7 +21,7 @@ pub struct Item<'a> {
     pub kind: Kind<'a>,
 }
 
-// A line, and the offset up to which it is cut.
+// A line, and the offset up to which it is cut; an offset behind the line's end counts as its end.
 #[derive(Clone, Copy)]
 pub struct Cutter<'a> {
     pub line: &'a [u8],
@@ -86,7 +86,7 @@ impl Kind<'_> {
 }
 
 impl<'a> Cutter<'a> {
-    // The next item of the line; behind the last one the line's end comes, and comes again.
+    // The next item of the line. It is no iterator, since behind the last item the line's end comes, and comes again.
     pub fn next_item(&mut self) -> Item<'a>
         ensures first { left self.old ≡ seen result ∷ after_item (mark_of result.kind) (left self.new) }
         ensures on { behind (left self.old) ≡ left self.new }
