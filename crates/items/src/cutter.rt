@@ -29,10 +29,10 @@ pub struct Cutter<'a> {
 }
 
 // Whether a byte belongs to a run.
-fn is_in_run(b: u8) -> bool
-    ensures { result ≡ is_in_run b }
+fn is_in_run(byte: u8) -> bool
+    ensures { result ≡ is_in_run byte }
 {
-    !matches!(b, b' ' | b'(' | b')')
+    !matches!(byte, b' ' | b'(' | b')')
 }
 
 // How many spaces stand at the front of some bytes.
@@ -40,21 +40,21 @@ fn spaces_of(bytes: &[u8]) -> usize
     ensures value { result ≡ spaces_of bytes.now }
     ensures within { result ≤ length bytes.now }
 {
-    bytes.iter().take_while(|b| **b == b' ').count()
+    bytes.iter().take_while(|byte| **byte == b' ').count()
 }
 
 // The run at the front of some bytes.
 fn run_of(bytes: &[u8]) -> &[u8]
     ensures { result.now ≡ run_of bytes.now }
 {
-    &bytes[..bytes.iter().take_while(|b| is_in_run(**b)).count()]
+    &bytes[..bytes.iter().take_while(|byte| is_in_run(**byte)).count()]
 }
 
 // What stands at the front of some bytes, where that is no space.
 fn front_of(bytes: &[u8]) -> Kind<'_>
     requires { slice_get bytes.now 0 ≢ Some 32 }
-    ensures first { (p : ℕ) → items false p bytes.now ≡ (p, mark_of result) ∷ after_item (mark_of result) (items false (p + length_of result) (drop (length_of result) bytes.now)) }
-    ensures on { (p : ℕ) → behind (items false p bytes.now) ≡ items false (p + length_of result) (drop (length_of result) bytes.now) }
+    ensures first { (place : ℕ) → items false place bytes.now ≡ (place, mark_of result) ∷ after_item (mark_of result) (items false (place + length_of result) (drop (length_of result) bytes.now)) }
+    ensures on { (place : ℕ) → behind (items false place bytes.now) ≡ items false (place + length_of result) (drop (length_of result) bytes.now) }
     ensures cut { IsCutFrom bytes.now result }
     ensures within { length_of result ≤ length bytes.now }
 {
