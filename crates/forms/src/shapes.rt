@@ -205,10 +205,9 @@ impl Shape {
     pub fn is_allowed(self, opened: Option<RankKind>) -> bool
         ensures { result ≡ allows opened self }
     {
-        match (opened, self.rank_kind()) {
-            (Some(opened), Some(kind)) => opened == kind,
-            _ => true,
-        }
+        opened
+            .zip(self.rank_kind())
+            .is_none_or(|(opened, kind)| opened == kind)
     }
 }
 

@@ -113,10 +113,10 @@ size_none ds k f unlike = by (scan 0 0 (ds ++ kilo_text k)) refl
         absurd (unlike (subst OneToTenDigits same (record { only = s.only; some = omega (arith, s.some); few = omega (arith, s.few) })))
 
 -- a text that ends in no k is a size exactly if it is one to ten digits
-pub plain_law : (text : List ℕ) (r : Option ℕ) → ((zs : List ℕ) → text ≡ zs ++ 107 ∷ [] → ⊥) →
-    MatchOption r (OneToTenDigits text → ⊥) (λ n. OneToTenDigits text × (n ≡ worth 0 text)) → r ≡ scan 0 0 text
-plain_law text None f v = size_none text false (λ e. f) v ∙ ap (scan 0 0) (append-nil text)
-plain_law text (Some n) f v = ap Some v.1 ∙ sym (size_complete text false v.0) ∙ ap (scan 0 0) (append-nil text)
+pub plain_law : (text : List ℕ) (r : Option ℤ) → ((zs : List ℕ) → text ≡ zs ++ 107 ∷ [] → ⊥) →
+    MatchOption r (OneToTenDigits text → ⊥) (λ n. OneToTenDigits text × (n ≡ pos (worth 0 text))) → r ≡ option_map pos (scan 0 0 text)
+plain_law text None f v = ap (option_map pos) (size_none text false (λ e. f) v ∙ ap (scan 0 0) (append-nil text))
+plain_law text (Some n) f v = ap Some v.1 ∙ ap (option_map pos) (sym (size_complete text false v.0) ∙ ap (scan 0 0) (append-nil text))
 
 taken_apart : (f : ℕ → ℤ) (r : Option ℕ) (z : ℤ) → option_map f r ≡ Some z → (m : ℕ) × (r ≡ Some m) × (z ≡ f m)
 taken_apart f None z e = no_some _ z e

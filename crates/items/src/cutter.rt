@@ -21,7 +21,7 @@ pub struct Item<'a> {
     pub kind: Kind<'a>,
 }
 
-// A line, and the offset up to which it is cut.
+// A line, and the offset up to which it is cut; an offset behind the line's end counts as its end.
 #[derive(Clone, Copy)]
 pub struct Cutter<'a> {
     pub line: &'a [u8],
@@ -29,10 +29,10 @@ pub struct Cutter<'a> {
 }
 
 // Whether a byte belongs to a run.
-fn is_in_run(b: u8) -> bool
-    ensures { result ≡ is_in_run b }
+fn is_in_run(byte: u8) -> bool
+    ensures { result ≡ is_in_run byte }
 {
-    !matches!(b, b' ' | b'(' | b')')
+    !matches!(byte, b' ' | b'(' | b')')
 }
 
 // How many spaces stand at the front of some bytes.
@@ -40,21 +40,21 @@ fn spaces_of(bytes: &[u8]) -> usize
     ensures value { result ≡ spaces_of bytes.now }
     ensures within { result ≤ length bytes.now }
 {
-    bytes.iter().take_while(|b| **b == b' ').count()
+    bytes.iter().take_while(|byte| **byte == b' ').count()
 }
 
 // The run at the front of some bytes.
 fn run_of(bytes: &[u8]) -> &[u8]
     ensures { result.now ≡ run_of bytes.now }
 {
-    &bytes[..bytes.iter().take_while(|b| is_in_run(**b)).count()]
+    &bytes[..bytes.iter().take_while(|byte| is_in_run(**byte)).count()]
 }
 
 // What stands at the front of some bytes, where that is no space.
 fn front_of(bytes: &[u8]) -> Kind<'_>
     requires { slice_get bytes.now 0 ≢ Some 32 }
-    ensures first { (p : ℕ) → items false p bytes.now ≡ (p, mark_of result) ∷ after_item (mark_of result) (items false (p + length_of result) (drop (length_of result) bytes.now)) }
-    ensures on { (p : ℕ) → behind (items false p bytes.now) ≡ items false (p + length_of result) (drop (length_of result) bytes.now) }
+    ensures first { (place : ℕ) → items false place bytes.now ≡ (place, mark_of result) ∷ after_item (mark_of result) (items false (place + length_of result) (drop (length_of result) bytes.now)) }
+    ensures on { (place : ℕ) → behind (items false place bytes.now) ≡ items false (place + length_of result) (drop (length_of result) bytes.now) }
     ensures cut { IsCutFrom bytes.now result }
     ensures within { length_of result ≤ length bytes.now }
 {
@@ -86,7 +86,7 @@ impl Kind<'_> {
 }
 
 impl<'a> Cutter<'a> {
-    // The next item of the line; behind the last one the line's end comes, and comes again.
+    // The next item of the line. It is no iterator, since behind the last item the line's end comes, and comes again.
     pub fn next_item(&mut self) -> Item<'a>
         ensures first { left self.old ≡ seen result ∷ after_item (mark_of result.kind) (left self.new) }
         ensures on { behind (left self.old) ≡ left self.new }

@@ -1,19 +1,22 @@
 // The numbers of a script line.
-ghost use Rattle.std.specs.Prelude.{◌≡◌, ◌^◌, ◌<◌, ◌≤◌, ◌↔◌, ℤ, IsTrue, IfSome, MatchOption};
+ghost use Rattle.std.specs.Prelude.{◌≡◌, ◌^◌, ◌<◌, ◌≤◌, ◌↔◌, ℤ, pos, ◌≤ℤ◌, IsTrue, IfSome, MatchOption};
+ghost use Rattle.std.specs.Option.{option_map};
 ghost use Rattle.items.specs.Numerals.{OneToTenDigits, worth, scan, number_of, Numeral};
 
 // As many digits as a number may have.
 const MOST_DIGITS: usize = 10;
 
 // What digits are worth.
-fn worth_of(digits: &[u8]) -> u64
+fn worth_of(digits: &[u8]) -> i64
     requires { OneToTenDigits digits.now }
-    ensures value { result ≡ worth 0 digits.now }
-    ensures bound { result < 10 ^ 10 }
+    ensures value { result ≡ pos (worth 0 digits.now) }
+    ensures bound { worth 0 digits.now < 10 ^ 10 }
 {
-    digits
+    let worth = digits
         .iter()
-        .fold(0, |worth, digit| 10 * worth + u64::from(digit - b'0'))
+        .fold(0, |worth, digit| 10 * worth + u64::from(digit - b'0'));
+    // Ten digits fit with their sign, so nothing is lost.
+    worth as i64
 }
 
 // Whether a text is one to ten digits.
@@ -24,17 +27,18 @@ fn is_plain(text: &[u8]) -> bool
 }
 
 // What one to ten digits are worth, or `None` where the text is something else.
-fn plain_size(text: &[u8]) -> Option<u64>
-    ensures value { MatchOption result (OneToTenDigits text.now → ⊥) (λ size. OneToTenDigits text.now × (size ≡ worth 0 text.now)) }
-    ensures bound { IfSome result (λ size. size < 10 ^ 10) }
+fn plain_size(text: &[u8]) -> Option<i64>
+    ensures value { MatchOption result (OneToTenDigits text.now → ⊥) (λ size. OneToTenDigits text.now × (size ≡ pos (worth 0 text.now))) }
+    ensures bound { IfSome result (λ _. worth 0 text.now < 10 ^ 10) }
 {
     is_plain(text).then(|| worth_of(text))
 }
 
 // The size that digits write, in thousands with a k behind them; `None` where the text is no such thing.
-fn magnitude(text: &[u8]) -> Option<u64>
-    ensures value { result ≡ scan 0 0 text.now }
-    ensures bound { IfSome result (λ size. size ≤ 9_999_999_999_000) }
+fn magnitude(text: &[u8]) -> Option<i64>
+    ensures value { result ≡ option_map pos (scan 0 0 text.now) }
+    ensures low { IfSome result (λ size. pos 0 ≤ℤ size) }
+    ensures high { IfSome result (λ size. size ≤ℤ pos 9_999_999_999_000) }
 {
     match text {
         [digits @ .., b'k'] => Some(1000 * plain_size(digits)?),
@@ -48,7 +52,7 @@ pub fn read_number(text: &[u8]) -> Option<i64>
     ensures means { MatchOption result ((z : ℤ) → Numeral text.now z → ⊥) (λ z. Numeral text.now z) }
 {
     match text {
-        [b'-', size @ ..] => magnitude(size).map(|size| -(size as i64)),
-        _ => magnitude(text).map(|size| size as i64),
+        [b'-', size @ ..] => magnitude(size).map(|size| -size),
+        _ => magnitude(text),
     }
 }

@@ -40,6 +40,7 @@ fn walk_along(line: &[u8], shape: Shape) -> Result<Numbers, usize>
 {
     let mut cutter = Cutter { line, offset: 0 };
     let mut numbers = Numbers::none();
+    // A loop, since the cutter goes on with each part.
     for part in shape.parts() {
         let item = cutter.next_item();
         numbers = fit(item.kind, *part, numbers).ok_or(item.place)?;
@@ -52,6 +53,7 @@ fn find_form(opened: Option<RankKind>, line: &[u8]) -> Result<Form, usize>
     ensures { result ≡ search_of opened (line_items line.now) 0 shapes }
 {
     let mut furthest = 0usize;
+    // A loop, since it ends at a form and else keeps the furthest place.
     for shape in SHAPES {
         if shape.is_allowed(opened) {
             match walk_along(line, shape) {

@@ -1,6 +1,8 @@
-use Rattle.std.proofs.Common.{◌≡◌, ◌-◌, ◌*◌, true, [], ◌∷◌, ◌++◌, length, take, Some, sym, ap, ◌∙◌, length-append, arith}
+use Rattle.std.proofs.Common.{◌≡◌, ◌-◌, ◌*◌, true, [], ◌∷◌, ◌++◌, length, take, Some, pos, sym, ap, ◌∙◌, length-append, arith}
 use Rattle.std.proofs.lemmas.Bool.{ltb-true}
-use Rattle.items.specs.Numerals.{scan}
+use Rattle.std.specs.Option.{option_map}
+use Rattle.std.proofs.lemmas.Int.{ints}
+use Rattle.items.specs.Numerals.{scan, worth}
 use Rattle.items.proofs.Digits.{split_last, last_push}
 use Rattle.items.proofs.NumberLaw.{size_complete, size_none, plain_law}
 use Rattle.items.proofs.numbers.magnitude.Goals as goal
@@ -10,14 +12,16 @@ pub returns-in_err-plain_size-in-107-clause-value : goal.returns-in_err-plain_si
 returns-in_err-plain_size-in-107-clause-value c =
     let text = c.args.text.now in
     let kilo : text ≡ take (length text - 1) text ++ 107 ∷ [] = split_last text 107 (omega arith) (omega arith) in
-    c.from_residual.ensures ∙ size_none (take (length text - 1) text) true (λ e zs f. absurd (cc)) c.in_err-plain_size-in-107.ensures.value ∙ ap (scan 0 0) (sym kilo)
+    c.from_residual.ensures ∙ ap (option_map pos) (size_none (take (length text - 1) text) true (λ e zs f. absurd (cc)) c.in_err-plain_size-in-107.ensures.value ∙ ap (scan 0 0) (sym kilo))
 
 pub returns-in_ok-plain_size-in-107-clause-value : goal.returns-in_ok-plain_size-in-107-clause-value
 returns-in_ok-plain_size-in-107-clause-value c =
     let text = c.args.text.now in
     let kilo : text ≡ take (length text - 1) text ++ 107 ∷ [] = split_last text 107 (omega arith) (omega arith) in
     let plain = c.in_ok-plain_size-in-107.ensures.value in
-    ap (λ n. Some (1000 * n)) plain.1 ∙ sym (ap (scan 0 0) kilo ∙ size_complete (take (length text - 1) text) true plain.0)
+    let found : option_map pos (scan 0 0 text) ≡ Some (pos (1000 * worth 0 (take (length text - 1) text))) = ap (option_map pos) (ap (scan 0 0) kilo ∙ size_complete (take (length text - 1) text) true plain.0) in
+    let low = c.in_ok-plain_size-in-107.ensures.bound in
+    rw found (ap Some (omega (arith, ints, plain.1)))
 
 pub returns-in_default-clause-value : goal.returns-in_default-clause-value
 returns-in_default-clause-value c = elim c.in_default.branch [

@@ -3,12 +3,14 @@ use Rattle.std.proofs.lemmas.List.{length-take-le, map-append}
 use Rattle.std.proofs.lemmas.Fn.{serves_by}
 use Rattle.std.proofs.lemmas.Iterator.{YieldsList-from_slice}
 use Rattle.std.proofs.lemmas.Iterator.Consumers.{YieldsList-so_far, YieldsList-turn, fold_from_yields_List}
+use Rattle.std.proofs.lemmas.Int.{ints}
 use Rattle.items.specs.Numerals.{is_digit, worth}
 use Rattle.items.proofs.Digits.{in_digits, digit_at, digits_taken, worth-push, worth-fold, worth_below}
 use Rattle.items.proofs.numbers.worth_of.Goals as goal
+use Rattle.items.proofs.numbers.worth_of.Goals.{After-fold-worth}
 
-pub fold-requires-clause-callable : goal.fold-requires-clause-callable
-fold-requires-clause-callable c =
+pub fold-worth-requires-clause-callable : goal.fold-worth-requires-clause-callable
+fold-worth-requires-clause-callable c =
     serves_by _ (λ xs q. q.1 ≡ worth 0 (map (λ y. y.now) xs))
     (λ xs q x v j k. let more : v.1 ≡ 10 * q.1 + (x.now - 48) = search rules in more ∙ ap (λ w. 10 * w + (x.now - 48)) j ∙ sym (worth-push 0 (map (λ y. y.now) xs) x.now) ∙ ap (worth 0) (sym (map-append (λ y. y.now) xs (x ∷ []))))
     _ _ _ _ refl
@@ -23,8 +25,17 @@ fold-requires-clause-callable c =
     let room : 10 * q.1 + 57 < 2 ^ 64 = omega arith in
     search rules)
 
+found : (c : After-fold-worth) → (c.fold-worth.result ≡ worth 0 c.args.digits.now) × (worth 0 c.args.digits.now < 10 ^ 10)
+found c = (
+  fold_from_yields_List _ (λ w b. 10 * w + (b - 48)) _ _ c.fold-worth.ensures.ran (YieldsList-from_slice c.args.digits.now cc) (λ a x b q k. search rules) ∙ sym (worth-fold 0 c.args.digits.now),
+  worth_below 10 c.args.digits.now c.requires.only c.requires.few,
+)
+
+pub overflow_cast-result : goal.overflow_cast-result
+overflow_cast-result c = let f = found c in omega (arith, ints)
+
 pub returns-clause-value : goal.returns-clause-value
-returns-clause-value c = fold_from_yields_List _ (λ w b. 10 * w + (b - 48)) _ _ c.fold.ensures.ran (YieldsList-from_slice c.args.digits.now cc) (λ a x b q k. search rules) ∙ sym (worth-fold 0 c.args.digits.now)
+returns-clause-value c = let f = found c in omega (arith, ints)
 
 pub returns-clause-bound : goal.returns-clause-bound
-returns-clause-bound c = let low = worth_below 10 c.args.digits.now c.requires.only c.requires.few in rw (returns-clause-value c) low
+returns-clause-bound c = (found c).1
