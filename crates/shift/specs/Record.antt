@@ -1,5 +1,5 @@
 -- What the record of a log makes of its locks and marks, and of an event.
-use Rattle.std.specs.Prelude.{◌≡◌, IfSome, IfNone, ℤ, ℕ, Bool, cond, false, true, not, ◌&&◌, ◌||◌, ◌==◌, List, [], ◌∷◌, ◌++◌, map, filter, find, Option, Some, None}
+use Rattle.std.specs.Prelude.{◌≡◌, IfSome, IfNone, ℤ, ℕ, Bool, if◌then◌else◌, false, true, not, ◌&&◌, ◌||◌, ◌==◌, List, [], ◌∷◌, ◌++◌, map, filter, find, Option, Some, None}
 use Rattle.std.specs.Option.{option_map}
 use Rattle.std.specs.Ordering.{nat_cmp}
 use Rattle.std.specs.List.{list_any}
@@ -52,26 +52,32 @@ is_covered r granted = covers (kind_of r granted.client.0 granted.element.0) gra
 -- Whether a lock that is granted over a mark throws the client of this one out.
 abbrev pub conflicts : Bool → Holding → Holding → Bool
 conflicts marked granted h =
-    (h.element.0 == granted.element.0 && not (h.client.0 == granted.client.0)) && kinds_conflict marked granted.kind h.kind
+    (h.element.0 == granted.element.0 && not (h.client.0 == granted.client.0))
+    && kinds_conflict marked granted.kind h.kind
 
 -- The clients that a granted lock throws out, and the locks that it leaves.
 abbrev pub losers : Record → Holding → List Client
-losers r granted = map (λ h. h.client) (filter (conflicts (is_marked r granted.element.0) granted) r.holdings.items)
+losers r granted =
+    map (λ h. h.client) (filter (conflicts (is_marked r granted.element.0) granted) r.holdings.items)
 
 abbrev pub left_by : Record → Holding → List Holding
-left_by r granted = filter (λ h. not (list_any (λ c. c.0 == h.client.0) (losers r granted))) r.holdings.items
+left_by r granted =
+    filter (λ h. not (list_any (λ c. c.0 == h.client.0) (losers r granted))) r.holdings.items
 
 -- The locks once the client holds this one.
 abbrev pub with_lock : Holding → List Holding → List Holding
-with_lock granted hs = filter (λ h. not (is_of granted.client.0 granted.element.0 h)) hs ++ granted ∷ []
+with_lock granted hs =
+    filter (λ h. not (is_of granted.client.0 granted.element.0 h)) hs ++ granted ∷ []
 
 -- The locks after a grant: none goes or comes where the client's own covers it.
 abbrev pub granted_to : Record → Holding → List Holding
-granted_to r granted = cond (is_covered r granted) r.holdings.items (with_lock granted (left_by r granted))
+granted_to r granted =
+    if is_covered r granted then r.holdings.items else with_lock granted (left_by r granted)
 
 -- Whether the element's mark stays at a grant: where the client's own lock covers it, or a lock on it is left.
 abbrev pub mark_stays : Record → Holding → Bool
-mark_stays r granted = is_covered r granted || list_any (is_on granted.element.0) (left_by r granted)
+mark_stays r granted =
+    is_covered r granted || list_any (is_on granted.element.0) (left_by r granted)
 
 -- The locks without those of a client.
 abbrev pub without : ℕ → Record → List Holding
@@ -91,7 +97,8 @@ pub record Leaves (old : Record) (client : ℕ) (new : Record) : Type 0 where
 pub record Grants (old : Record) (granted : Holding) (new : Record) : Type 0 where
   pub holdings : new.holdings.items ≡ granted_to old granted
   pub mark_kept : mark_stays old granted ≡ true → set.IsUnchanged old.marked new.marked
-  pub mark_gone : mark_stays old granted ≡ false → set.Updates nat_cmp old.marked new.marked granted.element.0 false
+  pub mark_gone : mark_stays old granted ≡ false
+      → set.Updates nat_cmp old.marked new.marked granted.element.0 false
   pub others : new ≡ record old { holdings = new.holdings; marked = new.marked }
 
 -- The pointer is tied to an element, or untied.
@@ -101,8 +108,10 @@ pub record Ties (old : Record) (pointer : ℕ) (tie : Option Element) (new : Rec
 
 -- The element that the pointer is tied to, if it is and if the element is locked, is marked.
 pub record Marks (old : Record) (pointer : ℕ) (new : Record) : Type 0 where
-  pub locked : IfSome (tree.get nat_cmp old.ties pointer) (λ e. is_locked old e.0 ≡ true → set.Updates nat_cmp old.marked new.marked e.0 true)
-  pub free : IfSome (tree.get nat_cmp old.ties pointer) (λ e. is_locked old e.0 ≡ false → set.IsUnchanged old.marked new.marked)
+  pub locked : IfSome (tree.get nat_cmp old.ties pointer)
+      (λ e. is_locked old e.0 ≡ true → set.Updates nat_cmp old.marked new.marked e.0 true)
+  pub free : IfSome (tree.get nat_cmp old.ties pointer)
+      (λ e. is_locked old e.0 ≡ false → set.IsUnchanged old.marked new.marked)
   pub untied : IfNone (tree.get nat_cmp old.ties pointer) (set.IsUnchanged old.marked new.marked)
   pub others : new ≡ record old { marked = new.marked }
 
@@ -119,14 +128,19 @@ is_noted _ = false
 
 -- What an event makes of the record.
 pub record Notes (old : Record) (event : Event) (new : Record) : Type 0 where
-  pub begun : (c : Client) (rank : Grade) → event.call ≡ Begin c rank → event.answer ≡ Done → Begins old c.0 event.moment new
-  pub granted : (c : Client) (kind : LockKind) (e : Element) → event.call ≡ Lock c kind e → event.answer ≡ Done → Grants old (record { client = c; element = e; kind = kind }) new
-  pub lost : (c : Client) (kind : LockKind) (e : Element) → event.call ≡ Lock c kind e → event.answer ≡ Lost → Leaves old c.0 new
+  pub begun : (c : Client) (rank : Grade) → event.call ≡ Begin c rank
+      → event.answer ≡ Done → Begins old c.0 event.moment new
+  pub granted : (c : Client) (kind : LockKind) (e : Element) → event.call ≡ Lock c kind e
+      → event.answer ≡ Done → Grants old (record { client = c; element = e; kind = kind }) new
+  pub lost : (c : Client) (kind : LockKind) (e : Element) → event.call ≡ Lock c kind e
+      → event.answer ≡ Lost → Leaves old c.0 new
   pub ended : (c : Client) → event.call ≡ End c → event.answer ≡ Done → Leaves old c.0 new
   pub given_up : (c : Client) → event.call ≡ GiveUp c → event.answer ≡ Done → Leaves old c.0 new
-  pub bound : (p : Pointer) (e : Element) → event.call ≡ Bind p e → event.answer ≡ Done → Ties old p.0 (Some e) new
+  pub bound : (p : Pointer) (e : Element) → event.call ≡ Bind p e
+      → event.answer ≡ Done → Ties old p.0 (Some e) new
   pub removed : (p : Pointer) → event.call ≡ Remove p → event.answer ≡ Done → Ties old p.0 None new
-  pub written : (p : Pointer) (v : ℤ) → event.call ≡ HardWrite p v → event.answer ≡ Done → Marks old p.0 new
+  pub written : (p : Pointer) (v : ℤ) → event.call ≡ HardWrite p v
+      → event.answer ≡ Done → Marks old p.0 new
   pub not_noted : is_noted event.call ≡ false → new ≡ old
   pub waiting : event.answer ≡ Wait → new ≡ old
   pub refused : (r : Refusal) → event.answer ≡ Refused r → new ≡ old
