@@ -27,7 +27,7 @@ use Rattle.book.proofs.ModelLaws.{slot_locks, slot_clients, model_grant, mark_ne
 
 -- What is owed of a changed book, from what it was changed to.
 pub owed : (n after : Inner) → n ≡ after → Sound after → record { sized : Sized n; counted : Counted n }
-owed n after e sound = let P : Inner → Type 0 = λ x. Sound x in let s = subst P (sym e) sound in record { sized = s.0; counted = s.1 }
+owed n after e sound = let s = subst Sound (sym e) sound in record { sized = s.sized; counted = s.counted }
 
 -- There are at most as many locks on an element as clients.
 few_locks : (rs : List ClientRecord) (e : ℕ) → ((c : ℕ) → locks_on (get_or rs c nobody).slots e ≤ 1) → all_locks rs e ≤ length rs
@@ -35,7 +35,7 @@ few_locks [] e once = omega arith
 few_locks (r ∷ rs) e once = let h = few_locks rs e (λ c. once (suc c)) in omega (arith, once 0)
 
 pub few_holders : (n : Inner) → Sound n → (e : ℕ) → (cell_of n e).holders < 65535
-few_holders n sound e = omega (arith, few_locks n.clients e (λ c. sound.1.1 c e), sound.1.2 e, sound.0.0)
+few_holders n sound e = omega (arith, few_locks n.clients e (λ c. sound.counted.once c e), sound.counted.holders e, sound.sized.clients)
 
 -- Where an element has a lock, there is a place on it.
 pub place_there : {X : Type 0} (slots : List (Option Held)) (e : ℕ) (x y : X) → is_some (lock_in slots e) ≡ true → position (λ s. on s e) slots ≡ None → x ≡ y
@@ -65,7 +65,7 @@ module _ (n : Inner) (sound : Sound n) (c : ℕ) (new : Held) (place : ℕ) wher
     other_model m = λ j. record {
       table = m;
       clients = slot_clients m n c place new j;
-      locks = slot_locks m n c place new (omega (arith, known.0, sound.0.0)) first.0 first.2 others j;
+      locks = slot_locks m n c place new (omega (arith, known.0, sound.sized.clients)) first.0 first.2 others j;
       marked = λ e. (cell_of n e).marked;
       second = λ e. (cell_of n e).second;
       ties = λ p. tie_of n p;

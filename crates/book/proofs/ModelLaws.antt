@@ -105,7 +105,7 @@ module _ (m : Meaning) (n : Inner) where
     }
       where
         short : c < length n.clients
-        short = omega (arith, sound.0.0)
+        short = omega (arith, sound.sized.clients)
 
         gone : (d e : ℕ) (b : Bool) → cond b (lock_in no_locks) (λ e. lock_in (client_of n d).slots e) e ≡ cond b None (lock_in (client_of n d).slots e)
         gone d e true = no_lock_in e
@@ -116,7 +116,7 @@ module _ (m : Meaning) (n : Inner) where
             ∙ fun_ext (λ d. fun_ext (λ e. gone d e (eqb d c)))
 
         seconds : (e : ℕ) → (cell_of (left n c after) e).second ≡ cond (some_below 16 (λ d. eqb d c && for_writing (lock_in (client_of n d).slots e))) None (cell_of n e).second
-        seconds e = released_seconds (client_of n c).slots n.cells e (within_cells n sound c) (sound.1.1 c)
+        seconds e = released_seconds (client_of n c).slots n.cells e (within_cells n sound c) (sound.counted.once c)
             ∙ ap (λ b. cond b None (cell_of n e).second) (sym (some_only 16 (λ d. for_writing (lock_in (client_of n d).slots e)) c l))
 
     -- A slot and a cell are set as a grant sets them.
@@ -137,18 +137,18 @@ module _ (m : Meaning) (n : Inner) where
       where
         locks : (λ d. lock_in (client_of (with_slot n c i new) d).slots) ≡
             at (λ d. lock_in (client_of n d).slots) c (at (lock_in (client_of n c).slots) new.element.0 (Some (granted_lock (model m n) kind new.element.0 (lock_in (client_of n c).slots new.element.0))))
-        locks = slot_locks c i new (omega (arith, sound.0.0)) li before old
+        locks = slot_locks c i new (omega (arith, sound.sized.clients)) li before old
             ∙ ap (λ o. at (λ d. lock_in (client_of n d).slots) c (at (lock_in (client_of n c).slots) new.element.0 (Some o))) granted
 
         marks : (λ q. (get_or (set n.cells new.element.0 x) q blank).marked) ≡ at (λ q. (cell_of n q).marked) new.element.0 (mark_after (model m n) c new.element.0 (lock_in (client_of n c).slots new.element.0))
-        marks = at_set (λ y. y.marked) n.cells new.element.0 x blank (omega (arith, sound.0.1)) ∙ ap (at (λ q. (cell_of n q).marked) new.element.0) mark
+        marks = at_set (λ y. y.marked) n.cells new.element.0 x blank (omega (arith, sound.sized.cells)) ∙ ap (at (λ q. (cell_of n q).marked) new.element.0) mark
 
         pick : (b : Bool) → at (λ q. (cell_of n q).second) new.element.0 (cond b (Some (number m new.element.0)) (cell_of n new.element.0).second) ≡ cond b (at (λ q. (cell_of n q).second) new.element.0 (Some (number m new.element.0))) (λ q. (cell_of n q).second)
         pick true = refl
         pick false = at_same (λ q. (cell_of n q).second) new.element.0 (cell_of n new.element.0).second refl
 
         seconds : (λ q. (get_or (set n.cells new.element.0 x) q blank).second) ≡ cond (is_write kind) (at (λ q. (cell_of n q).second) new.element.0 (Some (number m new.element.0))) (λ q. (cell_of n q).second)
-        seconds = at_set (λ y. y.second) n.cells new.element.0 x blank (omega (arith, sound.0.1)) ∙ ap (at (λ q. (cell_of n q).second) new.element.0) sec ∙ pick (is_write kind)
+        seconds = at_set (λ y. y.second) n.cells new.element.0 x blank (omega (arith, sound.sized.cells)) ∙ ap (at (λ q. (cell_of n q).second) new.element.0) sec ∙ pick (is_write kind)
 
     -- The mark that a new lock leaves: it stays only if somebody else holds the element.
     pub mark_new : (c e : ℕ) → lock_in (client_of n c).slots e ≡ None →
@@ -184,11 +184,13 @@ model_fresh m = λ i. record {
 
 pub sound_fresh : Sound fresh
 unfolding fresh
-sound_fresh = (
-  (refl, refl, refl),
-  (
-    (λ c l. ap (λ r. length r.slots) (get_or-replicate 16 c (record { state = Idle; slots = replicate 32 None }) nobody l)),
-    (λ c e. omega (arith, all_alike (λ r. locks_on r.slots e) (record { state = Idle; slots = replicate 32 None }) nobody refl 16 c)),
-    (λ e. all_alike (λ x. x.holders) blank blank refl 256 e),
-  ),
-)
+sound_fresh =
+    record {
+      sized = record { clients = refl; cells = refl; ties = refl };
+      counted =
+          record {
+            slots = λ c l. ap (λ r. length r.slots) (get_or-replicate 16 c (record { state = Idle; slots = replicate 32 None }) nobody l);
+            once = λ c e. omega (arith, all_alike (λ r. locks_on r.slots e) (record { state = Idle; slots = replicate 32 None }) nobody refl 16 c);
+            holders = λ e. all_alike (λ x. x.holders) blank blank refl 256 e;
+          };
+    }

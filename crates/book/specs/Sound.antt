@@ -12,15 +12,17 @@ all_locks [] e = 0
 all_locks (r ∷ rs) e = locks_on r.slots e + all_locks rs e
 
 -- Every list has its length.
-abbrev pub Sized : Inner → Type 0
-Sized n = (length n.clients ≡ 16) × (length n.cells ≡ 256) × (length n.ties ≡ 64)
+pub record Sized (n : Inner) : Type 0 where
+  pub clients : length n.clients ≡ 16
+  pub cells : length n.cells ≡ 256
+  pub ties : length n.ties ≡ 64
 
 -- Each client has 32 slots, and at most one lock on an element; each cell counts the locks on it.
-abbrev pub Counted : Inner → Type 0
-Counted n =
-    ((c : ℕ) → c < 16 → length (client_of n c).slots ≡ 32)
-    × ((c e : ℕ) → locks_on (client_of n c).slots e ≤ 1)
-    × ((e : ℕ) → (cell_of n e).holders ≡ all_locks n.clients e)
+pub record Counted (n : Inner) : Type 0 where
+  pub slots : (c : ℕ) → c < 16 → length (client_of n c).slots ≡ 32
+  pub once : (c e : ℕ) → locks_on (client_of n c).slots e ≤ 1
+  pub holders : (e : ℕ) → (cell_of n e).holders ≡ all_locks n.clients e
 
-abbrev pub Sound : Inner → Type 0
-Sound n = Sized n × Counted n
+pub record Sound (n : Inner) : Type 0 where
+  pub sized : Sized n
+  pub counted : Counted n

@@ -17,6 +17,7 @@ pub struct Inner {
     pub ties: [Option<Element>; 64],
 }
 
+// Who calls shows that the numbers are below the arrays' lengths: the book has that in its types.
 impl Inner {
     #[tactic(auto, unfolding(crate::specs::Whole::fresh))]
     pub fn new() -> Inner
