@@ -85,7 +85,8 @@ const OVER_ZEROS: [Answer; 21] = [
     Answer::Done,
 ];
 
-// The history's calls, and the host's rank list that they are made with.
+// The history's calls, and the host's rank list that they are made with. The calls are a slice, since an array of
+// ranks of any kind might be too large to lend.
 #[derive(Drop)]
 struct History<'ranks, 'calls, K> {
     ranks: &'ranks mut [K],

@@ -161,6 +161,7 @@ fn log_of_all(rt: &HostRuntime, numbers: &mut [i32]) -> io::Result<Vec<Event>>
 {
     let mut host = Host::open(rt, numbers);
     let outcome = host.perform_all();
+    // An engine is not dropped, so it is closed before a failure is passed on.
     let log = host.close();
     outcome?;
     Ok(log)

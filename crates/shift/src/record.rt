@@ -29,8 +29,9 @@ pub struct Holding {
     kind: LockKind,
 }
 
-// A transaction is named by the moment of its begin: that of a client's latest one stands in begun. The maps and
-// the set go by the numbers of clients, elements and pointers.
+// A transaction is named by the moment of its begin: that of a client's latest one stands in begun. Clients, elements
+// and pointers have no order, so the maps and the set go by their numbers. The locks are looked up by client, by
+// element and by both, so they are one list.
 #[derive(Drop)]
 pub struct Record {
     begun: BTreeMap<u16, usize>,
