@@ -5,7 +5,7 @@ ghost use Rattle.plant.specs.Meaning.{Meaning, IsBounded, has, within, get_answe
 use super::refusals::Refusal;
 
 // The number of an element of a table, counted from 0.
-#[derive(Clone, Copy, PartialEq, Eq, Debug)]
+#[derive(Clone, Copy, PartialEq, Eq, PartialOrd, Ord, Debug)]
 pub struct Element(pub u16);
 
 pub trait Table {
