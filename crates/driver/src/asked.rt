@@ -84,7 +84,7 @@ fn plain_call<K: Copy>(form: Form) -> Option<Call<K>>
             client,
             element,
             value,
-        } => Call::Change(Client(client), Element(element), value as i64),
+        } => Call::Change(Client(client), Element(element), i64::from(value)),
         Form::Commit { client } => Call::Commit(Client(client)),
         Form::Back { client } => Call::WriteBack(Client(client)),
         Form::End { client } => Call::End(Client(client)),
@@ -93,6 +93,6 @@ fn plain_call<K: Copy>(form: Form) -> Option<Call<K>>
         Form::Bind { pointer, element } => Call::Bind(Pointer(pointer), Element(element)),
         Form::Remove { pointer } => Call::Remove(Pointer(pointer)),
         Form::Get { pointer } => Call::HardRead(Pointer(pointer)),
-        Form::Put { pointer, value } => Call::HardWrite(Pointer(pointer), value as i64),
+        Form::Put { pointer, value } => Call::HardWrite(Pointer(pointer), i64::from(value)),
     })
 }

@@ -17,7 +17,8 @@ pub struct Feed<S: Read> {
 }
 
 // Takes the source's next line and keeps it without its byte 10; of a line that is too long, one byte more than a line may
-// have. Answers whether there was a line.
+// have. Answers whether there was a line, as `read_until` does: tried with the line as its answer, no fact of the borrow that comes
+// back could be cited.
 fn take_line<B: BufRead>(source: &mut B, line: &mut Vec<u8>) -> io::Result<bool>
     ensures bytes { OnOk result (IfSome (B.remaining source.old) (λ left. line.new.items ≡ take 121 (first_piece 10 left))) }
     ensures end { IfOk result (λ found. IfSome (B.remaining source.old) (λ left. IsTrue found ↔ (left ≢ []))) }

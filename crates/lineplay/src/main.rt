@@ -14,6 +14,7 @@ use std::io::Read;
 use std::process::ExitCode;
 use std::{env, fs, io};
 
+// As in `plantimage`: a crate of its own for these ten lines would be no plainer.
 fn main(rt: HostRuntime) -> ExitCode {
     match run(&rt) {
         Ok(code) => code,
