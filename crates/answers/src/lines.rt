@@ -60,7 +60,8 @@ fn fault_text(fault: Fault) -> Line
 }
 
 // Writes what a line of a script brings, the call's answer or the line's own fault, from a place on, and gives the place
-// behind; a buffer that is too short, or a place beyond it, is refused, and the buffer left as it is.
+// behind; a buffer that is too short, or a place beyond it, is refused, and the buffer left as it is. The place stands beside the
+// buffer, which may hold other lines before it.
 pub fn write_answer(
     out: &mut [u8],
     at: usize,

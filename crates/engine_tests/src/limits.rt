@@ -7,7 +7,8 @@ use std::process::Abort;
 
 const CLIENT: Client = Client(3);
 
-// Makes the calls one after the other; each has to get the answer beside it.
+// Makes the calls one after the other; each has to get the answer beside it. What is played on stays three parameters: a struct
+// of them would hold the engine borrowed.
 fn play<T: Table>(
     rt: &impl Abort,
     name: &str,

@@ -69,7 +69,8 @@ pub enum Form {
 // As many elements as an open may ask for.
 const MOST_ELEMENTS: u16 = 256;
 
-// The numbers of a line by what they stand for; 0 where the line has none.
+// The numbers of a line by what they stand for; 0 where the line has none, and no `Option` for each, since the shape says which
+// it has.
 #[derive(Clone, Copy, Default)]
 pub struct Numbers {
     client: u16,

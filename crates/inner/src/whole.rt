@@ -9,7 +9,8 @@ use plant::Element;
 use ranks::Client;
 use rules::{ClientState, LockKind, Pointer};
 
-// The clients, the cells of the elements, and what each pointer is tied to.
+// The clients, the cells of the elements, and what each pointer is tied to; arrays of fixed length, since a control task
+// must not allocate.
 #[derive(Drop)]
 pub struct Inner {
     pub clients: [ClientRecord; 16],
@@ -17,7 +18,8 @@ pub struct Inner {
     pub ties: [Option<Element>; 64],
 }
 
-// Who calls shows that the numbers are below the arrays' lengths: the book has that in its types.
+// Who calls shows that the numbers are below the arrays' lengths: the book has that in its types. Each operation passes on what
+// the record or the cell does, since its result is said by value; one that lent the cell out could not say that.
 impl Inner {
     #[tactic(auto, unfolding(crate::specs::Whole::fresh))]
     pub fn new() -> Inner

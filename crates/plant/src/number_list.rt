@@ -39,6 +39,7 @@ impl<'a> Table for NumberList<'a> {
         ensures value { result ≡ length (list_meaning self.now.entries.now).numbers }
         ensures entries { result ≡ min 256 (length self.now.entries.now) }
     {
+        // At most 256, so nothing is lost; `try_from` would add an outcome that cannot come.
         self.elements().len() as u16
     }
 

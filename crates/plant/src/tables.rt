@@ -26,6 +26,7 @@ pub trait Table {
         ensures value { result ≡ get_answer (meaning self.now) element.0 }
         ensures inside { IfOk result (λ v. IsTrue (within (meaning self.now) v)) };
 
+    // An element and its number stay two parameters: no fact joins them.
     fn put(&mut self, element: Element, number: i64) -> Result<(), Refusal>
         ensures value { result ≡ put_answer (meaning self.old) element.0 number }
         ensures after { meaning self.new ≡ put_meaning (meaning self.old) element.0 number };

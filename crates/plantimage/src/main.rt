@@ -63,6 +63,7 @@ fn obey<'a>(rt: &HostRuntime, words: &'a [String]) -> Result<(), Failure<'a>> {
     }
 }
 
+// The handle and the file's name go on as they came; a struct of the two would have nothing to say.
 fn show<'a>(rt: &HostRuntime, file: &'a str) -> Result<(), Failure<'a>> {
     let mut bytes = fs::read(rt, file).map_err(|error| Failure::NotRead { file, error })?;
     Image::check(bytes.as_slice()).map_err(|refusal| Failure::Refused { file, refusal })?;
