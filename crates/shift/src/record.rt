@@ -1,11 +1,10 @@
 // The record of a log: which transaction holds what, what is marked, which pointer is tied where.
 // It is kept by calls and answers alone.
 ghost use Rattle.std.specs.Prelude.{◌≡◌, false, true, [], not, ◌==◌, ◌||◌, ◌&&◌, filter, OnOk, IfOk, IfSome, IfNone, MatchBool};
-ghost use Rattle.std.specs.Ordering.{nat_cmp};
 ghost use Rattle.std.specs.List.{list_any, filter_map};
 ghost use Rattle.std.specs.BTreeMap as tree;
 ghost use Rattle.std.specs.BTreeSet as set;
-ghost use Rattle.shift.specs.Record.{is_on, is_of, is_locked, is_marked, kind_of, conflicts, losers, left_by, with_lock, Begins, Grants, Leaves, Marks, Notes, Ties};
+ghost use Rattle.shift.specs.Record.{client_cmp, element_cmp, pointer_cmp, is_on, is_of, is_locked, is_marked, kind_of, conflicts, losers, left_by, with_lock, Begins, Grants, Leaves, Marks, Notes, Ties};
 
 use plant::Element;
 use ranks::{Client, Grade};
@@ -29,21 +28,20 @@ pub struct Holding {
     kind: LockKind,
 }
 
-// A transaction is named by the moment of its begin: that of a client's latest one stands in begun. Clients, elements
-// and pointers have no order, so the maps and the set go by their numbers. The locks are looked up by client, by
-// element and by both, so they are one list.
+// A transaction is named by the moment of its begin: that of a client's latest one stands in begun. The locks are
+// looked up by client, by element and by both, so they are one list.
 #[derive(Drop)]
 pub struct Record {
-    begun: BTreeMap<u16, usize>,
+    begun: BTreeMap<Client, usize>,
     holdings: Vec<Holding>,
-    marked: BTreeSet<u16>,
-    ties: BTreeMap<u16, Element>,
+    marked: BTreeSet<Element>,
+    ties: BTreeMap<Pointer, Element>,
     heap: Global,
 }
 
 impl Holding {
     fn is_of(&self, client: Client, element: Element) -> bool
-        ensures { result ≡ is_of client.0 element.0 self.now }
+        ensures { result ≡ is_of client element self.now }
     {
         self.client == client && self.element == element
     }
@@ -97,21 +95,21 @@ impl Record {
     }
 
     fn begin(&mut self, moment: usize, client: Client) -> Result<(), AllocError>
-        ensures { OnOk result (Begins self.old client.0 moment self.new) }
+        ensures { OnOk result (Begins self.old client moment self.new) }
     {
-        self.begun.insert(client.0, moment)?;
+        self.begun.insert(client, moment)?;
         Ok(())
     }
 
     // The moment at which the client's latest transaction began.
     pub fn begun_by(&self, client: Client) -> Option<usize>
-        ensures { result ≡ tree.get nat_cmp self.now.begun client.0 }
+        ensures { result ≡ tree.get client_cmp self.now.begun client }
     {
-        self.begun.get(&client.0).copied()
+        self.begun.get(&client).copied()
     }
 
     fn kind_of(&self, client: Client, element: Element) -> Option<LockKind>
-        ensures { result ≡ kind_of self.now client.0 element.0 }
+        ensures { result ≡ kind_of self.now client element }
     {
         self.holdings
             .iter()
@@ -120,7 +118,7 @@ impl Record {
     }
 
     fn is_locked(&self, element: Element) -> bool
-        ensures { result ≡ is_locked self.now element.0 }
+        ensures { result ≡ is_locked self.now element }
     {
         self.holdings
             .iter()
@@ -128,14 +126,14 @@ impl Record {
     }
 
     pub fn is_marked(&self, element: Element) -> bool
-        ensures { result ≡ is_marked self.now element.0 }
+        ensures { result ≡ is_marked self.now element }
     {
-        self.marked.contains(&element.0)
+        self.marked.contains(&element)
     }
 
     // All locks of a client go.
     fn leave(&mut self, client: Client)
-        ensures { Leaves self.old client.0 self.new }
+        ensures { Leaves self.old client self.new }
     {
         self.holdings.retain(|holding| holding.client != client);
     }
@@ -178,13 +176,13 @@ impl Record {
 
     // The mark goes with a new lock if nobody holds the element; a reader that gains the write lock keeps it.
     fn unmark_if_free(&mut self, element: Element)
-        ensures mark { MatchBool (is_locked self.old element.0)
+        ensures mark { MatchBool (is_locked self.old element)
             (set.IsUnchanged self.old.marked self.new.marked)
-            (set.Updates nat_cmp self.old.marked self.new.marked element.0 false) }
+            (set.Updates element_cmp self.old.marked self.new.marked element false) }
         ensures others { self.new ≡ record self.old { marked = self.new.marked } }
     {
         if !self.is_locked(element) {
-            self.marked.remove(&element.0);
+            self.marked.remove(&element);
         }
     }
 
@@ -201,32 +199,32 @@ impl Record {
     }
 
     fn tie(&mut self, pointer: Pointer, element: Element) -> Result<(), AllocError>
-        ensures { OnOk result (Ties self.old pointer.0 (Some element) self.new) }
+        ensures { OnOk result (Ties self.old pointer (Some element) self.new) }
     {
-        self.ties.insert(pointer.0, element)?;
+        self.ties.insert(pointer, element)?;
         Ok(())
     }
 
     fn untie(&mut self, pointer: Pointer)
-        ensures { Ties self.old pointer.0 None self.new }
+        ensures { Ties self.old pointer None self.new }
     {
-        self.ties.remove(&pointer.0);
+        self.ties.remove(&pointer);
     }
 
     pub fn tie_of(&self, pointer: Pointer) -> Option<Element>
-        ensures { result ≡ tree.get nat_cmp self.now.ties pointer.0 }
+        ensures { result ≡ tree.get pointer_cmp self.now.ties pointer }
     {
-        self.ties.get(&pointer.0).copied()
+        self.ties.get(&pointer).copied()
     }
 
     // A hard write marks its element if that is locked.
     fn mark_through(&mut self, pointer: Pointer) -> Result<(), AllocError>
-        ensures { OnOk result (Marks self.old pointer.0 self.new) }
+        ensures { OnOk result (Marks self.old pointer self.new) }
     {
         if let Some(element) = self.tie_of(pointer)
             && self.is_locked(element)
         {
-            self.marked.insert(element.0)?;
+            self.marked.insert(element)?;
         }
         Ok(())
     }
@@ -234,8 +232,8 @@ impl Record {
     // The transactions that hold an element, by the moments of their begins.
     pub fn holders_of(&self, element: Element) -> Result<Vec<usize>, AllocError>
         ensures { IfOk result (λ begun. begun.items
-            ≡ filter_map (λ h. tree.get nat_cmp self.now.begun h.client.0)
-            (filter (is_on element.0) self.now.holdings.items)) }
+            ≡ filter_map (λ h. tree.get client_cmp self.now.begun h.client)
+            (filter (is_on element) self.now.holdings.items)) }
     {
         self.holdings
             .iter()
