@@ -4,7 +4,7 @@ ghost use Rattle.std.specs.Prelude.{◌≡◌, false, true, [], not, ◌==◌, �
 ghost use Rattle.std.specs.List.{list_any, filter_map};
 ghost use Rattle.std.specs.BTreeMap as tree;
 ghost use Rattle.std.specs.BTreeSet as set;
-ghost use Rattle.shift.specs.Record.{client_cmp, element_cmp, pointer_cmp, is_on, is_of, is_locked, is_marked, kind_of, conflicts, losers, left_by, with_lock, Begins, Grants, Leaves, Marks, Notes, Ties};
+ghost use Rattle.shift.specs.Record.{client_cmp, element_cmp, pointer_cmp, is_on, is_locked, is_marked, kind_of, losers, left_by, Begins, Grants, Leaves, Marks, Notes, Ties};
 
 use plant::Element;
 use ranks::{Client, Grade};
@@ -20,53 +20,34 @@ pub struct Event {
     pub answer: Answer,
 }
 
-// A client's lock on an element.
-#[derive(Clone, Copy)]
+// A client, and an element that it holds.
+#[derive(Clone, Copy, PartialEq, Eq, PartialOrd, Ord)]
 pub struct Holding {
     client: Client,
     element: Element,
-    kind: LockKind,
 }
 
-// A transaction is named by the moment of its begin: that of a client's latest one stands in begun. The locks are
-// looked up by client, by element and by both, so they are one list.
+// A transaction is named by the moment of its begin: that of a client's latest one stands in begun.
 #[derive(Drop)]
 pub struct Record {
     begun: BTreeMap<Client, usize>,
-    holdings: Vec<Holding>,
+    holdings: BTreeMap<Holding, LockKind>,
     marked: BTreeSet<Element>,
     ties: BTreeMap<Pointer, Element>,
     heap: Global,
-}
-
-impl Holding {
-    fn is_of(&self, client: Client, element: Element) -> bool
-        ensures { result ≡ is_of client element self.now }
-    {
-        self.client == client && self.element == element
-    }
-
-    // Whether another client's granted lock throws this one's client out.
-    fn conflicts(&self, granted: &Holding, marked: bool) -> bool
-        ensures { result ≡ conflicts marked granted.now self.now }
-    {
-        self.element == granted.element
-            && self.client != granted.client
-            && (granted.kind == LockKind::Write || self.kind == LockKind::Write || marked)
-    }
 }
 
 impl Record {
     // Before the first call.
     pub fn new(heap: Global) -> Record
         ensures begun { tree.IsEmpty result.begun }
-        ensures holdings { result.holdings.items ≡ [] }
+        ensures holdings { tree.IsEmpty result.holdings }
         ensures marked { set.IsEmpty result.marked }
         ensures ties { tree.IsEmpty result.ties }
     {
         Record {
             begun: BTreeMap::new(heap),
-            holdings: Vec::new(heap),
+            holdings: BTreeMap::new(heap),
             marked: BTreeSet::new(heap),
             ties: BTreeMap::new(heap),
             heap,
@@ -79,11 +60,9 @@ impl Record {
     {
         match (event.call, event.answer) {
             (Call::Begin(client, _), Answer::Done) => self.begin(event.moment, client)?,
-            (Call::Lock(client, kind, element), Answer::Done) => self.grant(Holding {
-                client,
-                element,
-                kind,
-            })?,
+            (Call::Lock(client, kind, element), Answer::Done) => {
+                self.grant(Holding { client, element }, kind)?
+            }
             (Call::Lock(client, _, _), Answer::Lost) => self.leave(client),
             (Call::End(client) | Call::GiveUp(client), Answer::Done) => self.leave(client),
             (Call::Bind(pointer, element), Answer::Done) => self.tie(pointer, element)?,
@@ -108,20 +87,17 @@ impl Record {
         self.begun.get(&client).copied()
     }
 
-    fn kind_of(&self, client: Client, element: Element) -> Option<LockKind>
-        ensures { result ≡ kind_of self.now client element }
+    fn kind_of(&self, holding: &Holding) -> Option<LockKind>
+        ensures { result ≡ kind_of self.now holding.now }
     {
-        self.holdings
-            .iter()
-            .find(|holding| holding.is_of(client, element))
-            .map(|holding| holding.kind)
+        self.holdings.get(holding).copied()
     }
 
     fn is_locked(&self, element: Element) -> bool
         ensures { result ≡ is_locked self.now element }
     {
         self.holdings
-            .iter()
+            .keys()
             .any(|holding| holding.element == element)
     }
 
@@ -135,42 +111,48 @@ impl Record {
     fn leave(&mut self, client: Client)
         ensures { Leaves self.old client self.new }
     {
-        self.holdings.retain(|holding| holding.client != client);
+        self.holdings.retain(|holding, _| holding.client != client);
     }
 
     // A granted lock, unless the client's present one covers it: who is in conflict with it is thrown out.
-    fn grant(&mut self, granted: Holding) -> Result<(), AllocError>
-        ensures { OnOk result (Grants self.old granted self.new) }
+    fn grant(&mut self, granted: Holding, kind: LockKind) -> Result<(), AllocError>
+        ensures { OnOk result (Grants self.old granted kind self.new) }
     {
-        let held = self.kind_of(granted.client, granted.element);
-        if held == Some(LockKind::Write) || held == Some(granted.kind) {
+        let held = self.kind_of(&granted);
+        if held == Some(LockKind::Write) || held == Some(kind) {
             return Ok(());
         }
-        self.throw_out(&granted)?;
+        self.throw_out(&granted, kind)?;
         self.unmark_if_free(granted.element);
-        self.hold(granted)
+        self.holdings.insert(granted, kind)?;
+        Ok(())
     }
 
-    // The clients in conflict with a granted lock.
-    fn losers(&self, granted: &Holding) -> Result<Vec<Client>, AllocError>
-        ensures { IfOk result (λ v. v.items ≡ losers self.now granted.now) }
+    // The other clients whose locks are in conflict with a granted one.
+    fn losers(&self, granted: &Holding, kind: LockKind) -> Result<Vec<Client>, AllocError>
+        ensures { IfOk result (λ v. v.items ≡ losers self.now granted.now kind) }
     {
         let marked = self.is_marked(granted.element);
         self.holdings
             .iter()
-            .filter(|holding| holding.conflicts(granted, marked))
-            .map(|holding| holding.client)
+            .filter(|(holding, held)| {
+                holding.element == granted.element
+                    && holding.client != granted.client
+                    && (kind == LockKind::Write || **held == LockKind::Write || marked)
+            })
+            .map(|(holding, _)| holding.client)
             .collect(self.heap)
     }
 
     // They lose all their locks.
-    fn throw_out(&mut self, granted: &Holding) -> Result<(), AllocError>
-        ensures holdings { OnOk result (self.new.holdings.items ≡ left_by self.old granted.now) }
+    fn throw_out(&mut self, granted: &Holding, kind: LockKind) -> Result<(), AllocError>
+        ensures holdings { OnOk result
+            (self.new.holdings.entries ≡ left_by self.old granted.now kind) }
         ensures others { self.new ≡ record self.old { holdings = self.new.holdings } }
     {
-        let losers = self.losers(granted)?;
+        let losers = self.losers(granted, kind)?;
         self.holdings
-            .retain(|holding| !losers.contains(&holding.client));
+            .retain(|holding, _| !losers.contains(&holding.client));
         Ok(())
     }
 
@@ -184,18 +166,6 @@ impl Record {
         if !self.is_locked(element) {
             self.marked.remove(&element);
         }
-    }
-
-    // In place of what the client held.
-    fn hold(&mut self, granted: Holding) -> Result<(), AllocError>
-        ensures holdings { OnOk result
-            (self.new.holdings.items ≡ with_lock granted self.old.holdings.items) }
-        ensures others { self.new ≡ record self.old { holdings = self.new.holdings } }
-    {
-        self.holdings
-            .retain(|holding| !holding.is_of(granted.client, granted.element));
-        self.holdings.push(granted)?;
-        Ok(())
     }
 
     fn tie(&mut self, pointer: Pointer, element: Element) -> Result<(), AllocError>
@@ -233,10 +203,10 @@ impl Record {
     pub fn holders_of(&self, element: Element) -> Result<Vec<usize>, AllocError>
         ensures { IfOk result (λ begun. begun.items
             ≡ filter_map (λ h. tree.get client_cmp self.now.begun h.client)
-            (filter (is_on element) self.now.holdings.items)) }
+            (filter (is_on element) (tree.keys self.now.holdings))) }
     {
         self.holdings
-            .iter()
+            .keys()
             .filter(|holding| holding.element == element)
             .filter_map(|holding| self.begun_by(holding.client))
             .collect(self.heap)
