@@ -1,11 +1,10 @@
 // The record of a log: which transaction holds what, what is marked, which pointer is tied where.
 // It is kept by calls and answers alone.
 ghost use Rattle.std.specs.Prelude.{◌≡◌, false, true, [], not, ◌==◌, ◌||◌, ◌&&◌, filter, OnOk, IfOk, IfSome, IfNone, MatchBool};
-ghost use Rattle.std.specs.Ordering.{nat_cmp};
 ghost use Rattle.std.specs.List.{list_any, filter_map};
 ghost use Rattle.std.specs.BTreeMap as tree;
 ghost use Rattle.std.specs.BTreeSet as set;
-ghost use Rattle.shift.specs.Record.{is_on, is_of, is_locked, is_marked, kind_of, conflicts, losers, left_by, with_lock, Begins, Grants, Leaves, Marks, Notes, Ties};
+ghost use Rattle.shift.specs.Record.{client_cmp, element_cmp, pointer_cmp, is_on, is_locked, is_marked, kind_of, losers, left_by, Begins, Grants, Leaves, Marks, Notes, Ties};
 
 use plant::Element;
 use ranks::{Client, Grade};
@@ -21,54 +20,34 @@ pub struct Event {
     pub answer: Answer,
 }
 
-// A client's lock on an element.
-#[derive(Clone, Copy)]
+// A client, and an element that it holds.
+#[derive(Clone, Copy, PartialEq, Eq, PartialOrd, Ord)]
 pub struct Holding {
     client: Client,
     element: Element,
-    kind: LockKind,
 }
 
-// A transaction is named by the moment of its begin: that of a client's latest one stands in begun. Clients, elements
-// and pointers have no order, so the maps and the set go by their numbers. The locks are looked up by client, by
-// element and by both, so they are one list.
+// A transaction is named by the moment of its begin: that of a client's latest one stands in begun.
 #[derive(Drop)]
 pub struct Record {
-    begun: BTreeMap<u16, usize>,
-    holdings: Vec<Holding>,
-    marked: BTreeSet<u16>,
-    ties: BTreeMap<u16, Element>,
+    begun: BTreeMap<Client, usize>,
+    holdings: BTreeMap<Holding, LockKind>,
+    marked: BTreeSet<Element>,
+    ties: BTreeMap<Pointer, Element>,
     heap: Global,
-}
-
-impl Holding {
-    fn is_of(&self, client: Client, element: Element) -> bool
-        ensures { result ≡ is_of client.0 element.0 self.now }
-    {
-        self.client == client && self.element == element
-    }
-
-    // Whether another client's granted lock throws this one's client out.
-    fn conflicts(&self, granted: &Holding, marked: bool) -> bool
-        ensures { result ≡ conflicts marked granted.now self.now }
-    {
-        self.element == granted.element
-            && self.client != granted.client
-            && (granted.kind == LockKind::Write || self.kind == LockKind::Write || marked)
-    }
 }
 
 impl Record {
     // Before the first call.
     pub fn new(heap: Global) -> Record
         ensures begun { tree.IsEmpty result.begun }
-        ensures holdings { result.holdings.items ≡ [] }
+        ensures holdings { tree.IsEmpty result.holdings }
         ensures marked { set.IsEmpty result.marked }
         ensures ties { tree.IsEmpty result.ties }
     {
         Record {
             begun: BTreeMap::new(heap),
-            holdings: Vec::new(heap),
+            holdings: BTreeMap::new(heap),
             marked: BTreeSet::new(heap),
             ties: BTreeMap::new(heap),
             heap,
@@ -81,11 +60,9 @@ impl Record {
     {
         match (event.call, event.answer) {
             (Call::Begin(client, _), Answer::Done) => self.begin(event.moment, client)?,
-            (Call::Lock(client, kind, element), Answer::Done) => self.grant(Holding {
-                client,
-                element,
-                kind,
-            })?,
+            (Call::Lock(client, kind, element), Answer::Done) => {
+                self.grant(Holding { client, element }, kind)?
+            }
             (Call::Lock(client, _, _), Answer::Lost) => self.leave(client),
             (Call::End(client) | Call::GiveUp(client), Answer::Done) => self.leave(client),
             (Call::Bind(pointer, element), Answer::Done) => self.tie(pointer, element)?,
@@ -97,136 +74,127 @@ impl Record {
     }
 
     fn begin(&mut self, moment: usize, client: Client) -> Result<(), AllocError>
-        ensures { OnOk result (Begins self.old client.0 moment self.new) }
+        ensures { OnOk result (Begins self.old client moment self.new) }
     {
-        self.begun.insert(client.0, moment)?;
+        self.begun.insert(client, moment)?;
         Ok(())
     }
 
     // The moment at which the client's latest transaction began.
     pub fn begun_by(&self, client: Client) -> Option<usize>
-        ensures { result ≡ tree.get nat_cmp self.now.begun client.0 }
+        ensures { result ≡ tree.get client_cmp self.now.begun client }
     {
-        self.begun.get(&client.0).copied()
+        self.begun.get(&client).copied()
     }
 
-    fn kind_of(&self, client: Client, element: Element) -> Option<LockKind>
-        ensures { result ≡ kind_of self.now client.0 element.0 }
+    fn kind_of(&self, holding: &Holding) -> Option<LockKind>
+        ensures { result ≡ kind_of self.now holding.now }
     {
-        self.holdings
-            .iter()
-            .find(|holding| holding.is_of(client, element))
-            .map(|holding| holding.kind)
+        self.holdings.get(holding).copied()
     }
 
     fn is_locked(&self, element: Element) -> bool
-        ensures { result ≡ is_locked self.now element.0 }
+        ensures { result ≡ is_locked self.now element }
     {
         self.holdings
-            .iter()
+            .keys()
             .any(|holding| holding.element == element)
     }
 
     pub fn is_marked(&self, element: Element) -> bool
-        ensures { result ≡ is_marked self.now element.0 }
+        ensures { result ≡ is_marked self.now element }
     {
-        self.marked.contains(&element.0)
+        self.marked.contains(&element)
     }
 
     // All locks of a client go.
     fn leave(&mut self, client: Client)
-        ensures { Leaves self.old client.0 self.new }
+        ensures { Leaves self.old client self.new }
     {
-        self.holdings.retain(|holding| holding.client != client);
+        self.holdings.retain(|holding, _| holding.client != client);
     }
 
     // A granted lock, unless the client's present one covers it: who is in conflict with it is thrown out.
-    fn grant(&mut self, granted: Holding) -> Result<(), AllocError>
-        ensures { OnOk result (Grants self.old granted self.new) }
+    fn grant(&mut self, granted: Holding, kind: LockKind) -> Result<(), AllocError>
+        ensures { OnOk result (Grants self.old granted kind self.new) }
     {
-        let held = self.kind_of(granted.client, granted.element);
-        if held == Some(LockKind::Write) || held == Some(granted.kind) {
+        let held = self.kind_of(&granted);
+        if held == Some(LockKind::Write) || held == Some(kind) {
             return Ok(());
         }
-        self.throw_out(&granted)?;
+        self.throw_out(&granted, kind)?;
         self.unmark_if_free(granted.element);
-        self.hold(granted)
+        self.holdings.insert(granted, kind)?;
+        Ok(())
     }
 
-    // The clients in conflict with a granted lock.
-    fn losers(&self, granted: &Holding) -> Result<Vec<Client>, AllocError>
-        ensures { IfOk result (λ v. v.items ≡ losers self.now granted.now) }
+    // The other clients whose locks are in conflict with a granted one.
+    fn losers(&self, granted: &Holding, kind: LockKind) -> Result<Vec<Client>, AllocError>
+        ensures { IfOk result (λ v. v.items ≡ losers self.now granted.now kind) }
     {
         let marked = self.is_marked(granted.element);
         self.holdings
             .iter()
-            .filter(|holding| holding.conflicts(granted, marked))
-            .map(|holding| holding.client)
+            .filter(|(holding, held)| {
+                holding.element == granted.element
+                    && holding.client != granted.client
+                    && (kind == LockKind::Write || **held == LockKind::Write || marked)
+            })
+            .map(|(holding, _)| holding.client)
             .collect(self.heap)
     }
 
     // They lose all their locks.
-    fn throw_out(&mut self, granted: &Holding) -> Result<(), AllocError>
-        ensures holdings { OnOk result (self.new.holdings.items ≡ left_by self.old granted.now) }
+    fn throw_out(&mut self, granted: &Holding, kind: LockKind) -> Result<(), AllocError>
+        ensures holdings { OnOk result
+            (self.new.holdings.entries ≡ left_by self.old granted.now kind) }
         ensures others { self.new ≡ record self.old { holdings = self.new.holdings } }
     {
-        let losers = self.losers(granted)?;
+        let losers = self.losers(granted, kind)?;
         self.holdings
-            .retain(|holding| !losers.contains(&holding.client));
+            .retain(|holding, _| !losers.contains(&holding.client));
         Ok(())
     }
 
     // The mark goes with a new lock if nobody holds the element; a reader that gains the write lock keeps it.
     fn unmark_if_free(&mut self, element: Element)
-        ensures mark { MatchBool (is_locked self.old element.0)
+        ensures mark { MatchBool (is_locked self.old element)
             (set.IsUnchanged self.old.marked self.new.marked)
-            (set.Updates nat_cmp self.old.marked self.new.marked element.0 false) }
+            (set.Updates element_cmp self.old.marked self.new.marked element false) }
         ensures others { self.new ≡ record self.old { marked = self.new.marked } }
     {
         if !self.is_locked(element) {
-            self.marked.remove(&element.0);
+            self.marked.remove(&element);
         }
     }
 
-    // In place of what the client held.
-    fn hold(&mut self, granted: Holding) -> Result<(), AllocError>
-        ensures holdings { OnOk result
-            (self.new.holdings.items ≡ with_lock granted self.old.holdings.items) }
-        ensures others { self.new ≡ record self.old { holdings = self.new.holdings } }
-    {
-        self.holdings
-            .retain(|holding| !holding.is_of(granted.client, granted.element));
-        self.holdings.push(granted)?;
-        Ok(())
-    }
-
     fn tie(&mut self, pointer: Pointer, element: Element) -> Result<(), AllocError>
-        ensures { OnOk result (Ties self.old pointer.0 (Some element) self.new) }
+        ensures { OnOk result (Ties self.old pointer (Some element) self.new) }
     {
-        self.ties.insert(pointer.0, element)?;
+        self.ties.insert(pointer, element)?;
         Ok(())
     }
 
     fn untie(&mut self, pointer: Pointer)
-        ensures { Ties self.old pointer.0 None self.new }
+        ensures { Ties self.old pointer None self.new }
     {
-        self.ties.remove(&pointer.0);
+        self.ties.remove(&pointer);
     }
 
     pub fn tie_of(&self, pointer: Pointer) -> Option<Element>
-        ensures { result ≡ tree.get nat_cmp self.now.ties pointer.0 }
+        ensures { result ≡ tree.get pointer_cmp self.now.ties pointer }
     {
-        self.ties.get(&pointer.0).copied()
+        self.ties.get(&pointer).copied()
     }
 
     // A hard write marks its element if that is locked.
     fn mark_through(&mut self, pointer: Pointer) -> Result<(), AllocError>
-        ensures { OnOk result (Marks self.old pointer.0 self.new) }
+        ensures { OnOk result (Marks self.old pointer self.new) }
     {
         if let Some(element) = self.tie_of(pointer)
             && self.is_locked(element)
         {
-            self.marked.insert(element.0)?;
+            self.marked.insert(element)?;
         }
         Ok(())
     }
@@ -234,11 +202,11 @@ impl Record {
     // The transactions that hold an element, by the moments of their begins.
     pub fn holders_of(&self, element: Element) -> Result<Vec<usize>, AllocError>
         ensures { IfOk result (λ begun. begun.items
-            ≡ filter_map (λ h. tree.get nat_cmp self.now.begun h.client.0)
-            (filter (is_on element.0) self.now.holdings.items)) }
+            ≡ filter_map (λ h. tree.get client_cmp self.now.begun h.client)
+            (filter (is_on element) (tree.keys self.now.holdings))) }
     {
         self.holdings
-            .iter()
+            .keys()
             .filter(|holding| holding.element == element)
             .filter_map(|holding| self.begun_by(holding.client))
             .collect(self.heap)

@@ -127,8 +127,7 @@ impl fmt::Display for Words<Answer> {
             Answer::Lost => f.write_str("lost"),
             Answer::Refused(refusal) => {
                 let number = refusal.number();
-                let words = refusal.words();
-                write!(f, "refused ({number}): {words}")
+                write!(f, "refused ({number}): {refusal}")
             }
         }
     }

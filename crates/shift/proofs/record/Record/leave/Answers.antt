@@ -1,9 +1,9 @@
 use Rattle.std.proofs.Common.{rules}
-use Rattle.std.proofs.lemmas.Fn.{filter_same}
+use Rattle.std.proofs.lemmas.Map.Made.{filter_same_pairs}
 use Rattle.shift.proofs.record.Record.leave.Goals as goal
 
 pub returns : goal.returns
 returns c = record {
-  holdings = filter_same _ _ _ (λ x b f' k. search rules) _ _ c.retain.ensures.filtered;
+  holdings = filter_same_pairs _ _ _ (λ k v b w f' t. search rules) _ _ c.retain.ensures.filtered;
   others = search rules;
 }

@@ -1,9 +1,9 @@
 use Rattle.std.proofs.Common.{rules, ◌∙◌, ap, not, filter, ◌==◌}
 use Rattle.std.specs.List.{list_any}
-use Rattle.std.proofs.lemmas.Fn.{filter_same}
+use Rattle.std.proofs.lemmas.Map.Made.{filter_same_pairs}
 use Rattle.shift.proofs.record.Record.throw_out.Goals as goal
 
 pub returns-clause-holdings : goal.returns-clause-holdings
-returns-clause-holdings c =
-    filter_same _ _ _ (λ x b f' k. search rules) _ _ c.retain.ensures.filtered
-    ∙ ap (λ those. filter (λ h. not (list_any (λ l. l.0 == h.client.0) those)) c.args.self.now.holdings.items) c.in_ok-losers.ensures
+returns-clause-holdings g =
+    filter_same_pairs _ _ _ (λ k v b w f' t. search rules) _ _ g.retain.ensures.filtered
+    ∙ ap (λ those. filter (λ lock. not (list_any (λ c. c.0 == lock.0.client.0) those)) g.args.self.now.holdings.entries) g.in_ok-losers.ensures
