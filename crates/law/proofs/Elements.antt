@@ -10,6 +10,10 @@ use Rattle.law.specs.Record.{is_open}
 use Rattle.law.proofs.Touches.{Touch, gives, takes, last, TrueTo, Placed, touches}
 use Rattle.law.proofs.Trails.{Trail, Stays, trail_stays}
 
+pub and_one : (b d : Bool) → d ≡ true → (b && d) ≡ b
+and_one true d e = e
+and_one false d e = refl
+
 -- The holder's own touches are right from the base and end in its working copy, which is the base where it
 -- has changed nothing.
 pub record Holder (base : ℤ) (own : List Touch) (l : Lock) : Type 0 where

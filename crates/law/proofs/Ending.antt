@@ -12,7 +12,7 @@ use Rattle.law.specs.Record.{is_open}
 use Rattle.law.specs.Order.{those_that}
 use Rattle.law.proofs.Touches.{Touch, last, TrueTo, Placed, placed, touches, last_append, true_append, true_front, true_back, touches_append, touches_placed}
 use Rattle.law.proofs.Trails.{Trail, same, trail_stays, trail_closes, holder_keeps, holder_moves, other_keeps, other_moves, trail_ends}
-use Rattle.law.proofs.Elements.{Holder, Held, Locking, someone, is_there, Kept, never, true_not_false, some_is, not_dropped, starts_anywhere, ends_alike, there_touches, not_there}
+use Rattle.law.proofs.Elements.{Holder, Held, Locking, someone, is_there, Kept, never, true_not_false, some_is, not_dropped, and_one, starts_anywhere, ends_alike, there_touches, not_there}
 use Rattle.law.proofs.Leaving.{stayed, locking_leaves, kept_leaves}
 
 module _ (start : ℤ) (now : ℕ) (X A : List Placed) (clients : ℕ → ClientState) (begun : ℕ → ℕ) (locks : ℕ → Option Lock)
@@ -138,10 +138,6 @@ module _ (start : ℤ) (now : ℕ) (X A : List Placed) (clients : ℕ → Client
             let m : marked ≡ false = sym (and_one marked (someone locks) locked_now) ∙ sym k.counts.there ∙ none in
             ap (λ xs. last l0.copy (touches xs)) nil ∙
             copy_is m (sym shown_before ∙ ap (λ xs. last base (touches xs)) nil) (is_write l0.kind) refl l0.changed refl
-          where
-            and_one : (b d : Bool) → d ≡ true → (b && d) ≡ b
-            and_one true d e = e
-            and_one false d e = refl
 
     trail_moved : Trail (suc now) moved A (k.front ++ placed (λ b. false) (own c0)) k.early k.tail
         (λ c. is_open (cond (leaver c) Idle (clients c))) begun (λ c. is_some (cond (leaver c) None (locks c)))

@@ -19,10 +19,6 @@ pub writer_of : (o : Option Lock) → for_writing o ≡ true → (l : Lock) × (
 writer_of None h = never (cc)
 writer_of (Some l) h = (l, refl, h)
 
-and_there : (b d : Bool) → d ≡ true → (b && d) ≡ b
-and_there true d e = e
-and_there false d e = refl
-
 module _ (clients : ℕ → ClientState) (locks : ℕ → Option Lock) (marked : Bool) (second : Option ℤ) (number : ℤ) (those : ℕ → Bool)
     (L : Locking clients locks marked second number) where
   -- The second version of a writer that stays is left.

@@ -1,5 +1,5 @@
 -- Each effect keeps what is kept of each element: gaining a lock, and touching one's own.
-use Rattle.std.proofs.Common.{◌≡◌, ℕ, suc, ◌<◌, Bool, true, false, cond, not, ◌&&◌, eqb, length, ℤ, is_some, Some, None, Option, unwrap_or, sym, refl, ap, ◌∙◌, subst, inl, inr}
+use Rattle.std.proofs.Common.{◌≡◌, ℕ, suc, ◌<◌, Bool, true, false, cond, not, eqb, length, ℤ, is_some, Some, None, Option, unwrap_or, sym, refl, ap, ◌∙◌, subst, inl, inr}
 use Rattle.std.proofs.lemmas.Bool.{and_right, eq-eqb, ne_eqb, cases_Bool, cases_eq}
 use Rattle.rules.specs.Scans.{at}
 use Rattle.rules.specs.State.{is_write}
@@ -7,7 +7,7 @@ use Rattle.rules.specs.declared.ClientState.TheVariants.{Executing, Committing}
 use Rattle.rules.specs.declared.LockKind.{LockKind}
 use Rattle.rules.specs.declared.LockKind.TheVariants.{Read, Write}
 use Rattle.rules.specs.declared.Lock.{Lock}
-use Rattle.law.proofs.Elements.{Held, never, true_not_false}
+use Rattle.law.proofs.Elements.{Held, never, true_not_false, and_one}
 use Rattle.plant.specs.Meaning.{Meaning, number}
 use Rattle.rules.specs.State.{State}
 use Rattle.law.specs.History.{History}
@@ -23,10 +23,6 @@ use Rattle.law.proofs.Gaining.{kept_new, kept_upgrade}
 use Rattle.law.proofs.Owning.{kept_own}
 use Rattle.law.proofs.Puts.{put_here, put_other}
 use Rattle.law.proofs.ClientSteps.{Element, Between, still}
-
-and_one : (b d : Bool) → d ≡ true → (b && d) ≡ b
-and_one true d e = e
-and_one false d e = refl
 
 -- One lock set: at that element, and at another.
 pub lock_here : (locks : ℕ → ℕ → Option Lock) (c e : ℕ) (o : Option Lock) →

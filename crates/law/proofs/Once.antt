@@ -2,7 +2,7 @@
 -- any test on entries: as many pass it in the order as in the list of entries as they came.
 use Rattle.std.proofs.Common.{◌≡◌, ℕ, ◌+◌, ◌≤◌, Bool, true, false, cond, not, ◌&&◌, eqb, List, [], ◌∷◌, ◌++◌, length, refl, ap, ◌∙◌, arith}
 use Rattle.std.proofs.lemmas.List.{append-nil}
-use Rattle.std.proofs.lemmas.Bool.{eqb-true, ne_eqb}
+use Rattle.std.proofs.lemmas.Bool.{and_right, eqb-true, ne_eqb}
 use Rattle.ranks.specs.declared.Client.{Client}
 use Rattle.rules.specs.declared.Call.{Call}
 use Rattle.rules.specs.declared.Call.TheVariants.{Begin, Lock, Read as Reads, Change, Commit, WriteBack, End, GiveUp, Clear, Bind, Remove, HardRead, HardWrite}
@@ -50,10 +50,6 @@ tally_split p q (x ∷ xs) = by (p x) (q x) (tally_split p q xs)
 tally_none : (p : Entry → Bool) (xs : List Entry) → Each (λ x. p x ≡ false) xs → tally p xs ≡ 0
 tally_none p [] a = refl
 tally_none p (x ∷ xs) a = rw a.0 (let r = tally_none p xs a.1 in omega arith)
-
-and_false : (b : Bool) → (b && false) ≡ false
-and_false true = refl
-and_false false = refl
 
 -- One entry that may be there, counted by its moment.
 one_time : (b : Bool) (x : Entry) (t : ℕ) → tally (λ y. eqb y.moment t) (cond b (x ∷ []) []) ≡ cond (eqb x.moment t) (cond b 1 0) 0
@@ -130,7 +126,7 @@ module _ {K : Type 0} where
       let one = tally_append p (those_that (λ a. not (moves a)) (order h)) (T ∷ those_that moves (accesses h)) in
       let two = tally_those p (λ a. not (moves a)) (order h) in
       let three = tally_those p moves (accesses h) in
-      let four = among_accesses (λ a. p a && moves a) (λ n g d. and_false (p (record { moment = n; steps = steps_since d g; behind = λ t. false }))) h in
+      let four = among_accesses (λ a. p a && moves a) (λ n g d. and_right (p (record { moment = n; steps = steps_since d g; behind = λ t. false })) false refl) h in
       let five = before (λ a. p a && moves a) in
       let six = tally_split p moves (order h) in
       let seven = before p in

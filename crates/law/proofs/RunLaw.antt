@@ -52,6 +52,10 @@ pub inv_run : {K : Type 0} (above : K → K → Bool) (m : Meaning) → length m
 inv_run above m small [] s e = subst (Inv m []) (sym e) (inv_start m small)
 inv_run above m small (x ∷ h) s r = inv_step above m h r.0 (inv_run above m small h r.0 r.1) x.ranks (last_effect above r.0 x s r.2)
 
+conflict_lock : (mark : Bool) (kind : LockKind) (o : Option Lock) → lock_conflicts mark kind o ≡ true → (l : Lock) × (o ≡ Some l)
+conflict_lock mark k None h = never (cc)
+conflict_lock mark k (Some l) h = (l, refl)
+
 -- A client that is open and stands above every other open one.
 module _ {K : Type 0} (above : K → K → Bool) (O : Order above) (m : Meaning) (h : History K) (t : State) (v : Inv m h t) (ranks : List K) (c : ℕ)
     (opened : is_open (t.clients c) ≡ true) (highest : (d : ℕ) → is_open (t.clients d) ≡ true → (d ≡ c → ⊥) → stands_above above ranks c d ≡ true) where
@@ -69,10 +73,6 @@ module _ {K : Type 0} (above : K → K → Bool) (O : Order above) (m : Meaning)
       let up : stands_above above ranks c f.found ≡ true = highest f.found ((v.element e).locking.held f.found l.0 l.1).opened other in
       let down : stands_above above ranks f.found c ≡ false = (decides above O).asymmetric ranks c f.found up in
       never (let w : true ≡ false = sym both.1 ∙ ap (stands_above above ranks f.found) (sym z) ∙ down in cc)
-    where
-      conflict_lock : (mark : Bool) (kind : LockKind) (o : Option Lock) → lock_conflicts mark kind o ≡ true → (l : Lock) × (o ≡ Some l)
-      conflict_lock mark k None h = never (cc)
-      conflict_lock mark k (Some l) h = (l, refl)
 
   by_grant : (c1 : ℕ) (kind : LockKind) (e : ℕ) → t.clients c1 ≡ Executing → some_below 16 (λ d. conflicts t c1 kind e d && stands_above above ranks d c1) ≡ false →
       conflicts t c1 kind e c ≡ true → ⊥
@@ -84,10 +84,6 @@ module _ {K : Type 0} (above : K → K → Bool) (O : Order above) (m : Meaning)
       let up : stands_above above ranks c c1 ≡ true = highest c1 (ap is_open ex) other in
       let none = some_false 16 (λ d. conflicts t c1 kind e d && stands_above above ranks d c1) unbeaten c small in
       never (let w : true ≡ false = sym (rw (inside, up)) ∙ none in cc)
-    where
-      conflict_lock : (mark : Bool) (kind : LockKind) (o : Option Lock) → lock_conflicts mark kind o ≡ true → (l : Lock) × (o ≡ Some l)
-      conflict_lock mark k None h = never (cc)
-      conflict_lock mark k (Some l) h = (l, refl)
 
   set_out : (c1 : ℕ) (after : ClientState) → (after ≡ ThrownOut → ⊥) → at t.clients c1 after c ≡ ThrownOut → ⊥
   set_out c1 after n e =

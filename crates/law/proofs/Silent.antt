@@ -1,5 +1,6 @@
 -- Events that put nothing into the order and add no step to a transaction.
 use Rattle.std.proofs.Common.{◌≡◌, ℕ, Bool, true, false, cond, ◌&&◌, eqb, List, [], ◌∷◌, ◌++◌, length, ℤ, Option, refl, ap, ◌∙◌, subst}
+use Rattle.std.proofs.lemmas.Bool.{and_right}
 use Rattle.std.proofs.lemmas.List.{append-nil}
 use Rattle.plant.specs.declared.refusals.Refusal.{Refusal}
 use Rattle.rules.specs.declared.ClientState.{ClientState}
@@ -28,11 +29,7 @@ pub record Silent {K : Type 0} (call : Call K) (a : Answer) : Type 0 where
   pub no_own : (c : ℕ) → own_steps c call a ≡ []
 
 pub refused_ordinary : {K : Type 0} (call : Call K) (r : Refusal) → Ordinary call (Refused r)
-refused_ordinary (Begin c k) r = record { no_end = λ h. refl; ends_none = λ t q. refl; no_begin = λ d. and_no (eqb c.0 d) }
-  where
-    and_no : (b : Bool) → (b && false) ≡ false
-    and_no true = refl
-    and_no false = refl
+refused_ordinary (Begin c k) r = record { no_end = λ h. refl; ends_none = λ t q. refl; no_begin = λ d. and_right (eqb c.0 d) false refl }
 refused_ordinary (Locks c kind e) r = record { no_end = λ h. refl; ends_none = λ t q. refl; no_begin = λ d. refl }
 refused_ordinary (Reads c e) r = record { no_end = λ h. refl; ends_none = λ t q. refl; no_begin = λ d. refl }
 refused_ordinary (Change c e v) r = record { no_end = λ h. refl; ends_none = λ t q. refl; no_begin = λ d. refl }

@@ -48,8 +48,7 @@ impl Rank for Due {
     ghost order = { record { irreflexive = Prim.search rules; transitive = Prim.search rules; even = Prim.search rules } };
 
     fn is_above(&self, other: &Due) -> bool {
-        // The two fields count in opposite ways, so that no derived order is this one.
-        self.minute < other.minute || (self.minute == other.minute && self.weight > other.weight)
+        (other.minute, self.weight) > (self.minute, other.weight)
     }
 }
 
@@ -57,15 +56,11 @@ impl Rank for Due {
 pub fn stands_above<K: Rank>(ranks: &[K], client: Client, other: Client) -> bool
     ensures { result ≡ stands_above K.above ranks.now client.0 other.0 }
 {
-    match (
-        ranks.get(usize::from(client.0)),
-        ranks.get(usize::from(other.0)),
-    ) {
-        (Some(rank), Some(rival)) => {
-            rank.is_above(rival) || (!rival.is_above(rank) && client < other)
-        }
-        _ => false,
-    }
+    let rank = ranks.get(usize::from(client.0));
+    let rival = ranks.get(usize::from(other.0));
+    rank.zip(rival).is_some_and(|(rank, rival)| {
+        rank.is_above(rival) || (!rival.is_above(rank) && client < other)
+    })
 }
 
 // Standing above is an order that decides between any two clients, for every kind of rank.

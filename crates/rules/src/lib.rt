@@ -48,7 +48,8 @@ pub enum Fate {
     Dropped,
 }
 
-// One client's lock on one element.
+// One client's lock on one element. Its copy is read whether it was changed or not, and a change may come again, so that neither flag
+// is an `Option` of the other or of the copy.
 #[derive(Clone, Copy)]
 pub struct Lock {
     pub copy: i64,
@@ -75,7 +76,8 @@ pub enum Call<K> {
     HardWrite(Pointer, i64),
 }
 
-// What a call answers.
+// What a call answers. It is no `Result`: a history is a list of calls with their answers, and a refusal is one of six ways in which a
+// call comes out. The engine's calls answer a `Result`, which becomes an answer by `From`.
 #[derive(Clone, Copy, PartialEq, Eq, Debug)]
 pub enum Answer {
     Done,
