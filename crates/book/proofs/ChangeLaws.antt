@@ -58,10 +58,10 @@ module _ (n : Inner) (sound : Sound n) (c : ℕ) (new : Held) (place : ℕ) wher
     others : (q : ℕ) → (q ≡ new.element.0 → ⊥) → on (get_or (client_of n c).slots place None) q ≡ false
     others q ne = on_one (get_or (client_of n c).slots place None) new.element.0 q first.1 ne
 
-    pub other_sound : Sound (with_slot n c place new)
+    pub other_sound : Sound (with_slot n c place (Some new))
     other_sound = sound_slot n sound c place new known.0 known.1 (on_same (get_or (client_of n c).slots place None) new.element.0 first.1)
 
-    pub other_model : (m : Meaning) → model m (with_slot n c place new) ≡ with_lock (model m n) c new.element.0 new.lock
+    pub other_model : (m : Meaning) → model m (with_slot n c place (Some new)) ≡ with_lock (model m n) c new.element.0 new.lock
     other_model m = λ j. record {
       table = m;
       clients = slot_clients m n c place new j;
@@ -73,12 +73,12 @@ module _ (n : Inner) (sound : Sound n) (c : ℕ) (new : Held) (place : ℕ) wher
 
     -- A reader gains the write lock.
     module _ (kind : LockKind) (v : ℤ) where
-      pub raise_sound : Sound (with_cell (with_slot n c place new) new.element.0 (raised (cell_of n new.element.0) kind v))
+      pub raise_sound : Sound (with_cell (with_slot n c place (Some new)) new.element.0 (raised (cell_of n new.element.0) kind v))
       raise_sound = sound_raise n sound c place new (raised (cell_of n new.element.0) kind v) known.0 known.1 (on_same (get_or (client_of n c).slots place None) new.element.0 first.1) refl
 
       pub raise_model : (was : Lock) → new.element.0 < 256 → lock_in (client_of n c).slots new.element.0 ≡ Some was →
           new.lock ≡ record { copy = was.copy; kind = kind; changed = was.changed; taken = was.taken } → (m : Meaning) → number m new.element.0 ≡ v →
-          model m (with_cell (with_slot n c place new) new.element.0 (raised (cell_of n new.element.0) kind v)) ≡ gain c kind new.element.0 (model m n)
+          model m (with_cell (with_slot n c place (Some new)) new.element.0 (raised (cell_of n new.element.0) kind v)) ≡ gain c kind new.element.0 (model m n)
       raise_model was le h lock m num =
           model_grant m n sound c place new kind (raised (cell_of n new.element.0) kind v) known.0 le first.0 first.2 others
           (lock ∙ ap (granted_lock (model m n) kind new.element.0) (sym h)) (ap (mark_after (model m n) c new.element.0) (sym h))
@@ -96,11 +96,11 @@ module _ (n : Inner) (sound : Sound n) (c : ℕ) (new : Held) (place : ℕ) wher
         go None t = refl
         go (Some h) t = absurd (cc)
 
-    pub add_sound : Sound (with_cell (with_slot n c place new) new.element.0 (gained (cell_of n new.element.0) kind v))
+    pub add_sound : Sound (with_cell (with_slot n c place (Some new)) new.element.0 (gained (cell_of n new.element.0) kind v))
     add_sound = sound_gain n sound c place new at_place.0 at_place.1 (gained (cell_of n new.element.0) kind v) le unused none refl
 
     pub add_model : new.lock ≡ record { copy = v; kind = kind; changed = false; taken = false } → (m : Meaning) → number m new.element.0 ≡ v →
-        model m (with_cell (with_slot n c place new) new.element.0 (gained (cell_of n new.element.0) kind v)) ≡ gain c kind new.element.0 (model m n)
+        model m (with_cell (with_slot n c place (Some new)) new.element.0 (gained (cell_of n new.element.0) kind v)) ≡ gain c kind new.element.0 (model m n)
     add_model lock m num =
         model_grant m n sound c place new kind (gained (cell_of n new.element.0) kind v) at_place.0 le (position-Some is_none (client_of n c).slots place None is).0
         (λ k l. nowhere_on (client_of n c).slots new.element.0 none k) (λ q ne. ap (λ s. on s q) unused)
@@ -108,9 +108,9 @@ module _ (n : Inner) (sound : Sound n) (c : ℕ) (new : Held) (place : ℕ) wher
         (mark_new m n sound c new.element.0 none) (ap (λ w. cond (is_write kind) (Some w) (cell_of n new.element.0).second) (sym num))
 
 -- A slot is set, and then a cell.
-pub both_set : (n one two : Inner) (c i e : ℕ) (h : Held) (f : Cell → Cell) → one ≡ with_slot n c i h → two ≡ with_cell one e (f (cell_of one e)) →
-    two ≡ with_cell (with_slot n c i h) e (f (cell_of n e))
-both_set n one two c i e h f p q = q ∙ ap (λ x. with_cell x e (f (cell_of x e))) p
+pub both_set : (n one two : Inner) (c i e : ℕ) (s : Option Held) (f : Cell → Cell) → one ≡ with_slot n c i s → two ≡ with_cell one e (f (cell_of one e)) →
+    two ≡ with_cell (with_slot n c i s) e (f (cell_of n e))
+both_set n one two c i e s f p q = q ∙ ap (λ x. with_cell x e (f (cell_of x e))) p
 
 -- Where a lock that is not held finds room, there is a free place.
 pub place_free : {X : Type 0} (n : Inner) → Sound n → (r : Request) (x y : X) → r.client.0 < 16 → lock_in (client_of n r.client.0).slots r.element.0 ≡ None → finds_room n r ≡ true →

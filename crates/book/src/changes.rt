@@ -46,7 +46,7 @@ impl Book {
     {
         // The place is there, since the lock is.
         if let Some(place) = self.place_of(client, element) {
-            self.inner.set_slot(client, place, Held { lock, element });
+            self.inner.set_slot(client, place, Some(Held { lock, element }));
         }
     }
 
@@ -79,7 +79,7 @@ impl Book {
     }
 
     // A client gains a lock that it did not have; the copy is the table's number.
-    fn add_lock(&mut self, admitted: Admitted, copy: i64)
+    pub fn add_lock(&mut self, admitted: Admitted, copy: i64)
         requires none { lock_in (client_of self.old.inner admitted.request.client.0).slots admitted.request.element.0 ≡ None }
         requires room { finds_room self.old.inner admitted.request ≡ true }
         ensures { Grants self.old.inner self.new.inner admitted.request copy }
@@ -97,13 +97,13 @@ impl Book {
         };
         // A place is free, since there is room.
         if let Some(place) = self.free_place_of(client) {
-            self.inner.set_slot(client, place, Held { lock, element });
+            self.inner.set_slot(client, place, Some(Held { lock, element }));
             self.inner.gain(element, kind, copy);
         }
     }
 
     // A client's lock becomes one of another kind; the second version is the table's number.
-    fn raise_lock(&mut self, admitted: Admitted, second: i64, held: Lock)
+    pub fn raise_lock(&mut self, admitted: Admitted, second: i64, held: Lock)
         requires held { lock_in (client_of self.old.inner admitted.request.client.0).slots admitted.request.element.0 ≡ Some held }
         ensures { Grants self.old.inner self.new.inner admitted.request second }
     {
@@ -115,7 +115,7 @@ impl Book {
         let lock = Lock { kind, ..held };
         // The place is there, since the lock is.
         if let Some(place) = self.place_of(client, element) {
-            self.inner.set_slot(client, place, Held { lock, element });
+            self.inner.set_slot(client, place, Some(Held { lock, element }));
             self.inner.raise(element, kind, second);
         }
     }

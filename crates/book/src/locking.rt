@@ -13,15 +13,17 @@ ghost use Rattle.book.specs.Requests.{blocks, finds_room};
 use super::keeping::Book;
 use super::requests::{Request, Turn};
 use ranks::{Client, Rank, stands_above};
-use rules::{ClientState, LockKind};
+use rules::{ClientState, Lock, LockKind};
 
 impl Book {
     // Whether the client's own lock covers its request.
     pub fn is_covered(&self, request: Request) -> bool
         ensures { result ≡ covers (lock_in (client_of self.now.inner request.client.0).slots request.element.0) request.kind }
     {
-        let held = self.lock_of(request.client, request.element);
-        held.is_some_and(|lock| request.kind == LockKind::Read || lock.kind == LockKind::Write)
+        is_covered(
+            self.lock_of(request.client, request.element),
+            request.kind,
+        )
     }
 
     // Whether the client holds the element already, or has room for one lock more.
@@ -75,4 +77,11 @@ impl Book {
             }
         }
     }
+}
+
+// Whether a lock that is held covers one that is asked for.
+pub fn is_covered(held: Option<Lock>, asked: LockKind) -> bool
+    ensures { result ≡ covers held asked }
+{
+    held.is_some_and(|lock| asked == LockKind::Read || lock.kind == LockKind::Write)
 }

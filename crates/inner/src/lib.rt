@@ -6,5 +6,5 @@ mod slots;
 mod whole;
 
 pub use cells::Cell;
-pub use slots::{ClientRecord, Held};
+pub use slots::{ClientRecord, Held, free_place, is_on, lowest_left, place_on};
 pub use whole::{Inner, inner_size};

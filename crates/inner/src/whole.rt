@@ -49,13 +49,13 @@ impl Inner {
         self.clients[usize::from(client.0)].state = state;
     }
 
-    // A lock comes into one slot of a client.
-    pub fn set_slot(&mut self, client: Client, place: usize, held: Held)
+    // One slot of a client is set.
+    pub fn set_slot(&mut self, client: Client, place: usize, slot: Option<Held>)
         requires client { client.0 < 16 }
         requires place { place < 32 }
-        ensures { self.new ≡ with_slot self.old client.0 place held }
+        ensures { self.new ≡ with_slot self.old client.0 place slot }
     {
-        self.clients[usize::from(client.0)].slots[place] = Some(held);
+        self.clients[usize::from(client.0)].slots[place] = slot;
     }
 
     // A client loses all its locks and comes into a state.

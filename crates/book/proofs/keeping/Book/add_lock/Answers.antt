@@ -1,4 +1,4 @@
-use Rattle.std.proofs.Common.{◌≡◌, false, refl, sym, ap, ◌∙◌, arith, rules}
+use Rattle.std.proofs.Common.{◌≡◌, false, Some, refl, sym, ap, ◌∙◌, arith, rules}
 use Rattle.inner.specs.Cells.{gained}
 use Rattle.inner.specs.Whole.{cell_of, with_cell, with_slot}
 use Rattle.inner.specs.declared.slots.Held.{Held}
@@ -13,18 +13,18 @@ gain-requires-clause-room c = omega (arith, few_holders c.args.self.now.inner (s
 pub invariant_of-self : goal.invariant_of-self
 invariant_of-self c =
     let new : Held = record { lock = record { kind = c.args.admitted.request.kind; copy = c.args.copy; changed = false; taken = false }; element = c.args.admitted.request.element } in
-    let p : c.set_slot.new.self ≡ with_slot c.args.self.now.inner c.args.admitted.request.client.0 c.in-Some.place new = search rules in
+    let p : c.set_slot.new.self ≡ with_slot c.args.self.now.inner c.args.admitted.request.client.0 c.in-Some.place (Some new) = search rules in
     let q : c.gain.new.self ≡ with_cell c.set_slot.new.self c.args.admitted.request.element.0 (gained (cell_of c.set_slot.new.self c.args.admitted.request.element.0) c.args.admitted.request.kind c.args.copy) = search rules in
     owed c.gain.new.self _
-    (both_set c.args.self.now.inner c.set_slot.new.self c.gain.new.self c.args.admitted.request.client.0 c.in-Some.place c.args.admitted.request.element.0 new (λ x. gained x c.args.admitted.request.kind c.args.copy) p q)
+    (both_set c.args.self.now.inner c.set_slot.new.self c.gain.new.self c.args.admitted.request.client.0 c.in-Some.place c.args.admitted.request.element.0 (Some new) (λ x. gained x c.args.admitted.request.kind c.args.copy) p q)
     (add_sound c.args.self.now.inner (sound_of c.args.self.now) c.args.admitted.request.client.0 new c.in-Some.place (sym c.in-Some.ensures) c.args.admitted.element_known c.requires.none c.args.admitted.request.kind c.args.copy)
 
 pub returns-in-Some : goal.returns-in-Some
 returns-in-Some c =
     let new : Held = record { lock = record { kind = c.args.admitted.request.kind; copy = c.args.copy; changed = false; taken = false }; element = c.args.admitted.request.element } in
-    let p : c.set_slot.new.self ≡ with_slot c.args.self.now.inner c.args.admitted.request.client.0 c.in-Some.place new = search rules in
+    let p : c.set_slot.new.self ≡ with_slot c.args.self.now.inner c.args.admitted.request.client.0 c.in-Some.place (Some new) = search rules in
     let q : c.gain.new.self ≡ with_cell c.set_slot.new.self c.args.admitted.request.element.0 (gained (cell_of c.set_slot.new.self c.args.admitted.request.element.0) c.args.admitted.request.kind c.args.copy) = search rules in
-    λ m num. ap (model m) (both_set c.args.self.now.inner c.set_slot.new.self c.gain.new.self c.args.admitted.request.client.0 c.in-Some.place c.args.admitted.request.element.0 new (λ x. gained x c.args.admitted.request.kind c.args.copy) p q)
+    λ m num. ap (model m) (both_set c.args.self.now.inner c.set_slot.new.self c.gain.new.self c.args.admitted.request.client.0 c.in-Some.place c.args.admitted.request.element.0 (Some new) (λ x. gained x c.args.admitted.request.kind c.args.copy) p q)
     ∙ add_model c.args.self.now.inner (sound_of c.args.self.now) c.args.admitted.request.client.0 new c.in-Some.place (sym c.in-Some.ensures) c.args.admitted.element_known c.requires.none c.args.admitted.request.kind c.args.copy refl m num
 
 pub returns-in_default : goal.returns-in_default

@@ -1,4 +1,4 @@
-use Rattle.std.proofs.Common.{sym, ap, ◌∙◌}
+use Rattle.std.proofs.Common.{Some, sym, ap, ◌∙◌}
 use Rattle.inner.specs.declared.slots.Held.{Held}
 use Rattle.inner.specs.Whole.{client_of, with_slot}
 use Rattle.book.specs.Model.{model}
@@ -8,7 +8,7 @@ use Rattle.book.proofs.keeping.Book.set_lock.Goals as goal
 
 pub invariant_of-self : goal.invariant_of-self
 invariant_of-self c =
-    owed c.set_slot.new.self (with_slot c.args.self.now.inner c.args.client.0 c.in-Some.place (record { lock = c.args.lock; element = c.args.element })) c.set_slot.ensures
+    owed c.set_slot.new.self (with_slot c.args.self.now.inner c.args.client.0 c.in-Some.place (Some (record { lock = c.args.lock; element = c.args.element }))) c.set_slot.ensures
     (other_sound c.args.self.now.inner (sound_of c.args.self.now) c.args.client.0 (record { lock = c.args.lock; element = c.args.element }) c.in-Some.place (sym c.in-Some.ensures))
 
 pub returns-in-Some : goal.returns-in-Some
