@@ -10,7 +10,7 @@ use Rattle.inner.specs.Slots.{lock_in}
 use Rattle.inner.specs.Whole.{client_of, cell_of}
 use Rattle.book.specs.Model.{model}
 use Rattle.book.specs.declared.requests.Request.{Request}
-use Rattle.book.specs.declared.requests.Turn.{Turn}
+use Rattle.inner.specs.declared.known.Turn.{Turn}
 
 -- The state to which a call leads, or its refusal.
 abbrev pub state_after : Result Turn Refusal → Result ClientState Refusal

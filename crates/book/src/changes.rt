@@ -10,8 +10,8 @@ ghost use Rattle.book.specs.Model.{model, Becomes};
 ghost use Rattle.book.specs.Requests.{Grants, finds_room};
 
 use super::keeping::Book;
-use super::requests::{Admitted, Request, Turn};
-use inner::{Held, Inner};
+use super::requests::{Admitted, Request};
+use inner::{Held, Inner, KnownElement, Turn};
 use plant::Element;
 use ranks::Client;
 use rules::{Lock, Pointer};
@@ -29,14 +29,14 @@ impl Book {
     pub fn enter(&mut self, turn: Turn)
         ensures { Becomes self.old.inner self.new.inner (λ s. with_client s turn.client.0 turn.after) }
     {
-        self.inner.enter(turn.client, turn.after);
+        self.inner.enter(turn);
     }
 
     // The client loses all its locks and comes into the state of its turn.
     pub fn leave(&mut self, turn: Turn)
         ensures { Becomes self.old.inner self.new.inner (leaving (λ d. nat_eq d turn.client.0) turn.after) }
     {
-        self.inner.leave(turn.client, turn.after);
+        self.inner.leave(turn);
     }
 
     // A client's lock on an element becomes another.
@@ -44,18 +44,19 @@ impl Book {
         requires { is_some (lock_in (client_of self.old.inner client.0).slots element.0) ≡ true }
         ensures { Becomes self.old.inner self.new.inner (λ s. with_lock s client.0 element.0 lock) }
     {
-        // The place is there, since the lock is.
-        if let Some(place) = self.place_of(client, element) {
-            self.inner.set_slot(client, place, Some(Held { lock, element }));
-        }
+        let Some(place) = self.place_of(client, element) else {
+            // The place is there, since the lock is.
+            unreachable!()
+        };
+        self.inner
+            .set_slot(client, place, Some(Held { lock, element }));
     }
 
     // A hard write comes to an element.
-    pub fn write_hard(&mut self, element: Element, written: i64)
-        requires { element.0 < 256 }
-        ensures { (m : Meaning) → model (put_meaning m element.0 written) self.new.inner ≡ hard_written (model m self.old.inner) element.0 written }
+    pub fn write_hard(&mut self, known: KnownElement, written: i64)
+        ensures { (m : Meaning) → model (put_meaning m known.element.0 written) self.new.inner ≡ hard_written (model m self.old.inner) known.element.0 written }
     {
-        self.inner.write_hard(element, written);
+        self.inner.write_hard(known, written);
     }
 
     // A pointer is tied or untied.
@@ -95,11 +96,13 @@ impl Book {
             changed: false,
             taken: false,
         };
-        // A place is free, since there is room.
-        if let Some(place) = self.free_place_of(client) {
-            self.inner.set_slot(client, place, Some(Held { lock, element }));
-            self.inner.gain(element, kind, copy);
-        }
+        let Some(place) = self.free_place_of(client) else {
+            // A place is free, since there is room.
+            unreachable!()
+        };
+        self.inner
+            .set_slot(client, place, Some(Held { lock, element }));
+        self.inner.gain(KnownElement { element }, kind, copy);
     }
 
     // A client's lock becomes one of another kind; the second version is the table's number.
@@ -113,10 +116,12 @@ impl Book {
             element,
         } = admitted.request;
         let lock = Lock { kind, ..held };
-        // The place is there, since the lock is.
-        if let Some(place) = self.place_of(client, element) {
-            self.inner.set_slot(client, place, Some(Held { lock, element }));
-            self.inner.raise(element, kind, second);
-        }
+        let Some(place) = self.place_of(client, element) else {
+            // The place is there, since the lock is.
+            unreachable!()
+        };
+        self.inner
+            .set_slot(client, place, Some(Held { lock, element }));
+        self.inner.raise(KnownElement { element }, kind, second);
     }
 }

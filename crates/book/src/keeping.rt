@@ -11,8 +11,7 @@ ghost use Rattle.inner.specs.Whole.{nobody, client_of, cell_of, tie_of};
 ghost use Rattle.book.specs.Sound.{Sized, Counted};
 ghost use Rattle.book.specs.Requests.{state_after, lock_total};
 
-use super::requests::Turn;
-use inner::{Cell, ClientRecord, Inner, free_place, lowest_left, place_on};
+use inner::{Cell, ClientRecord, Inner, Turn, free_place, lowest_left, place_on};
 use plant::{Element, Refusal};
 use ranks::Client;
 use rules::{ClientState, Lock, Move, Pointer};

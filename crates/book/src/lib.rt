@@ -8,4 +8,4 @@ mod requests;
 
 pub use keeping::Book;
 pub use locking::is_covered;
-pub use requests::{Admitted, Request, Turn};
+pub use requests::{Admitted, Request};

@@ -11,7 +11,8 @@ ghost use Rattle.book.specs.Model.{Becomes};
 ghost use Rattle.book.specs.Requests.{blocks, finds_room};
 
 use super::keeping::Book;
-use super::requests::{Request, Turn};
+use super::requests::Request;
+use inner::Turn;
 use ranks::{Client, Rank, stands_above};
 use rules::{ClientState, Lock, LockKind};
 

@@ -34,9 +34,7 @@ impl<T: Table> Engine<T> {
         if self.tie_of(pointer)?.is_some() {
             return Err(Refusal::PointerAlreadyBound);
         }
-        if !self.has(element) {
-            return Err(Refusal::NoSuchElement);
-        }
+        self.known(element)?;
         self.book.tie(pointer, Some(element));
         Ok(())
     }
@@ -45,7 +43,7 @@ impl<T: Table> Engine<T> {
     pub fn remove(&mut self, pointer: Pointer) -> Result<(), Refusal>
         ensures { left_with T.meaning self.new (done_answer result) ≡ remove_call (state_of T.meaning self.old) pointer.0 }
     {
-        let _element = self.bound_element(pointer)?;
+        self.bound_element(pointer)?;
         self.book.tie(pointer, None);
         Ok(())
     }
@@ -65,12 +63,9 @@ impl<T: Table> Engine<T> {
     pub fn hard_write(&mut self, pointer: Pointer, written: i64) -> Result<(), Refusal>
         ensures { left_with T.meaning self.new (done_answer result) ≡ hard_write_call (state_of T.meaning self.old) pointer.0 written }
     {
-        let element = self.bound_element(pointer)?;
-        if !self.has(element) {
-            return Err(Refusal::NoSuchElement);
-        }
-        self.table.put(element, written)?;
-        self.book.write_hard(element, written);
+        let known = self.known(self.bound_element(pointer)?)?;
+        self.table.put(known.element, written)?;
+        self.book.write_hard(known, written);
         Ok(())
     }
 }

@@ -1,5 +1,4 @@
 use Rattle.std.proofs.Common.{Some, sym, ap, ◌∙◌}
-use Rattle.inner.specs.declared.slots.Held.{Held}
 use Rattle.inner.specs.Whole.{client_of, with_slot}
 use Rattle.book.specs.Model.{model}
 use Rattle.book.proofs.ReadLaws.{sound_of}
@@ -11,11 +10,10 @@ invariant_of-self c =
     owed c.set_slot.new.self (with_slot c.args.self.now.inner c.args.client.0 c.in-Some.place (Some (record { lock = c.args.lock; element = c.args.element }))) c.set_slot.ensures
     (other_sound c.args.self.now.inner (sound_of c.args.self.now) c.args.client.0 (record { lock = c.args.lock; element = c.args.element }) c.in-Some.place (sym c.in-Some.ensures))
 
-pub returns-in-Some : goal.returns-in-Some
-returns-in-Some c =
-    let new : Held = record { lock = c.args.lock; element = c.args.element } in
+pub returns : goal.returns
+returns c =
     λ m. ap (model m) c.set_slot.ensures
-    ∙ other_model c.args.self.now.inner (sound_of c.args.self.now) c.args.client.0 new c.in-Some.place (sym c.in-Some.ensures) m
+    ∙ other_model c.args.self.now.inner (sound_of c.args.self.now) c.args.client.0 (record { lock = c.args.lock; element = c.args.element }) c.in-Some.place (sym c.in-Some.ensures) m
 
-pub returns-in_default : goal.returns-in_default
-returns-in_default c = λ m. place_there (client_of c.args.self.now.inner c.args.client.0).slots c.args.element.0 _ _ c.requires (sym c.place_of.ensures ∙ c.in_default.is)
+pub unreachable-requires : goal.unreachable-requires
+unreachable-requires c = place_there (client_of c.args.self.now.inner c.args.client.0).slots c.args.element.0 c.requires (sym c.place_of.ensures ∙ c.in_default.is)
