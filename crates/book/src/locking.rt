@@ -1,6 +1,7 @@
 // What a request for a lock meets in the book: who stands in its way, and who is thrown out.
-ghost use Rattle.std.specs.Prelude.{◌≡◌, ◌&&◌};
+ghost use Rattle.std.specs.Prelude.{◌≡◌, ℕ, Bool, ◌&&◌};
 ghost use Rattle.ranks.specs.Standing.{stands_above};
+ghost use Rattle.ranks.specs.declared.Client.{Client};
 ghost use Rattle.rules.specs.Scans.{some_below};
 ghost use Rattle.rules.specs.State.{is_committing};
 ghost use Rattle.rules.specs.Locking.{covers, leave as leaving};
@@ -47,22 +48,28 @@ impl Book {
             })
     }
 
+    // Whether a client that stands in the way of a request passes a test.
+    fn some_blocker<F: Fn(Client) -> bool>(&self, request: Request, passes: F) -> bool
+        requires { F.IsAlwaysCallable passes }
+        ensures { (test : ℕ → Bool) → ((d : Client) (b : Bool) → F.post passes d b → b ≡ test d.0) → result ≡ some_below 16 (λ d. blocks self.now.inner request d && test d) }
+    {
+        (0..16)
+            .map(Client)
+            .any(|other| self.is_blocked_by(request, other) && passes(other))
+    }
+
     // Whether a client that stands in the way of a request also stands above.
     pub fn is_lost<K: Rank>(&self, ranks: &[K], request: Request) -> bool
         ensures { result ≡ some_below 16 (λ d. blocks self.now.inner request d && stands_above K.above ranks.now d request.client.0) }
     {
-        (0..16).map(Client).any(|other| {
-            self.is_blocked_by(request, other) && stands_above(ranks, other, request.client)
-        })
+        self.some_blocker(request, |other| stands_above(ranks, other, request.client))
     }
 
     // Whether a client that stands in the way of a request is committing.
     pub fn must_wait(&self, request: Request) -> bool
         ensures { result ≡ some_below 16 (λ d. blocks self.now.inner request d && is_committing (client_of self.now.inner d).state) }
     {
-        (0..16).map(Client).any(|other| {
-            self.is_blocked_by(request, other) && self.state_of(other) == ClientState::Committing
-        })
+        self.some_blocker(request, |other| self.state_of(other) == ClientState::Committing)
     }
 
     // All clients that stand in the way of a request are thrown out.
