@@ -7,7 +7,7 @@ ghost use Rattle.rules.specs.Calls.{with_client, with_lock, with_tie, hard_writt
 ghost use Rattle.inner.specs.Slots.{lock_in};
 ghost use Rattle.inner.specs.Whole.{client_of};
 ghost use Rattle.book.specs.Model.{model, Becomes};
-ghost use Rattle.book.specs.Requests.{Grants, finds_room};
+ghost use Rattle.book.specs.Requests.{Grants, Replaces, finds_room};
 
 use super::keeping::Book;
 use super::requests::{Admitted, Request};
@@ -44,12 +44,19 @@ impl Book {
         requires { is_some (lock_in (client_of self.old.inner client.0).slots element.0) ≡ true }
         ensures { Becomes self.old.inner self.new.inner (λ s. with_lock s client.0 element.0 lock) }
     {
-        let Some(place) = self.place_of(client, element) else {
+        self.replace(client, Held { lock, element });
+    }
+
+    // A lock takes the place of the one that its client holds on its element.
+    fn replace(&mut self, client: Client, held: Held)
+        requires { is_some (lock_in (client_of self.old.inner client.0).slots held.element.0) ≡ true }
+        ensures { Replaces self.old.inner self.new.inner client.0 held }
+    {
+        let Some(place) = self.place_of(client, held.element) else {
             // The place is there, since the lock is.
             unreachable!()
         };
-        self.inner
-            .set_slot(client, place, Some(Held { lock, element }));
+        self.inner.set_slot(client, place, Some(held));
     }
 
     // A hard write comes to an element.
@@ -116,12 +123,7 @@ impl Book {
             element,
         } = admitted.request;
         let lock = Lock { kind, ..held };
-        let Some(place) = self.place_of(client, element) else {
-            // The place is there, since the lock is.
-            unreachable!()
-        };
-        self.inner
-            .set_slot(client, place, Some(Held { lock, element }));
+        self.replace(client, Held { lock, element });
         self.inner.raise(KnownElement { element }, kind, second);
     }
 }
