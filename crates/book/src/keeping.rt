@@ -24,7 +24,7 @@ pub struct Book {
     ghost counted: { Counted inner },
 }
 
-// Client and element stay two parameters where nothing else is asked, as in the calls of the rules.
+// Client and element stay two parameters where nothing else is asked: no fact joins them.
 impl Book {
     // A client's record, if there is such a client.
     fn record(&self, client: Client) -> Option<&ClientRecord>

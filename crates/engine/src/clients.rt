@@ -12,7 +12,7 @@ use plant::{Element, Refusal, Table};
 use ranks::{Client, Rank};
 use rules::{Fate, Lock, LockKind, Move};
 
-// Client and element stay two parameters, as in the calls of the rules.
+// Client and element stay two parameters: no fact joins them.
 impl<T: Table> Engine<T> {
     // How a call that looks at the rank list is met: by whether there is such a client, then by how
     // many entries the list has, then by the client's state.
