@@ -22,10 +22,7 @@ impl Book {
     pub fn is_covered(&self, request: Request) -> bool
         ensures { result ≡ covers (lock_in (client_of self.now.inner request.client.0).slots request.element.0) request.kind }
     {
-        is_covered(
-            self.lock_of(request.client, request.element),
-            request.kind,
-        )
+        is_covered(self.lock_of(request.client, request.element), request.kind)
     }
 
     // Whether the client holds the element already, or has room for one lock more.
@@ -53,9 +50,7 @@ impl Book {
         requires { F.IsAlwaysCallable passes }
         ensures { (test : ℕ → Bool) → ((d : Client) (b : Bool) → F.post passes d b → b ≡ test d.0) → result ≡ some_below 16 (λ d. blocks self.now.inner request d && test d) }
     {
-        (0..16)
-            .map(Client)
-            .any(|other| self.is_blocked_by(request, other) && passes(other))
+        (0..16).map(Client).any(|other| self.is_blocked_by(request, other) && passes(other))
     }
 
     // Whether a client that stands in the way of a request also stands above.
@@ -69,7 +64,10 @@ impl Book {
     pub fn must_wait(&self, request: Request) -> bool
         ensures { result ≡ some_below 16 (λ d. blocks self.now.inner request d && is_committing (client_of self.now.inner d).state) }
     {
-        self.some_blocker(request, |other| self.state_of(other) == ClientState::Committing)
+        self.some_blocker(
+            request,
+            |other| self.state_of(other) == ClientState::Committing,
+        )
     }
 
     // All clients that stand in the way of a request are thrown out.
