@@ -70,12 +70,12 @@ module _ (m : Meaning) (n : Inner) where
   module _ (c i : ℕ) (new : Held) where
     pub slot_locks : c < length n.clients → i < length (client_of n c).slots → ((k : ℕ) → k < i → on (get_or (client_of n c).slots k None) new.element.0 ≡ false) →
         ((q : ℕ) → (q ≡ new.element.0 → ⊥) → on (get_or (client_of n c).slots i None) q ≡ false) →
-        (λ d. lock_in (client_of (with_slot n c i new) d).slots) ≡ at (λ d. lock_in (client_of n d).slots) c (at (lock_in (client_of n c).slots) new.element.0 (Some new.lock))
+        (λ d. lock_in (client_of (with_slot n c i (Some new)) d).slots) ≡ at (λ d. lock_in (client_of n d).slots) c (at (lock_in (client_of n c).slots) new.element.0 (Some new.lock))
     slot_locks l li before old =
         at_set (λ r. lock_in r.slots) n.clients c (record { state = (client_of n c).state; slots = set (client_of n c).slots i (Some new) }) nobody l
         ∙ ap (at (λ d. lock_in (client_of n d).slots) c) (slot_at (client_of n c).slots i new li before old)
 
-    pub slot_clients : ◌≡◌ {A = ℕ → ClientState} (λ d. (client_of (with_slot n c i new) d).state) (λ d. (client_of n d).state)
+    pub slot_clients : ◌≡◌ {A = ℕ → ClientState} (λ d. (client_of (with_slot n c i (Some new)) d).state) (λ d. (client_of n d).state)
     slot_clients = same_set (λ r. r.state) n.clients c (record { state = (client_of n c).state; slots = set (client_of n c).slots i (Some new) }) nobody refl
 
   module _ (sound : Sound n) where
@@ -125,7 +125,7 @@ module _ (m : Meaning) (n : Inner) where
         new.lock ≡ granted_lock (model m n) kind new.element.0 (lock_in (client_of n c).slots new.element.0) →
         x.marked ≡ mark_after (model m n) c new.element.0 (lock_in (client_of n c).slots new.element.0) →
         x.second ≡ cond (is_write kind) (Some (number m new.element.0)) (cell_of n new.element.0).second →
-        model m (with_cell (with_slot n c i new) new.element.0 x) ≡ gain c kind new.element.0 (model m n)
+        model m (with_cell (with_slot n c i (Some new)) new.element.0 x) ≡ gain c kind new.element.0 (model m n)
     model_grant c i new kind x l le li before old granted mark sec = λ j. record {
       table = m;
       clients = slot_clients c i new j;
@@ -135,7 +135,7 @@ module _ (m : Meaning) (n : Inner) where
       ties = λ p. tie_of n p;
     }
       where
-        locks : (λ d. lock_in (client_of (with_slot n c i new) d).slots) ≡
+        locks : (λ d. lock_in (client_of (with_slot n c i (Some new)) d).slots) ≡
             at (λ d. lock_in (client_of n d).slots) c (at (lock_in (client_of n c).slots) new.element.0 (Some (granted_lock (model m n) kind new.element.0 (lock_in (client_of n c).slots new.element.0))))
         locks = slot_locks c i new (omega (arith, sound.sized.clients)) li before old
             ∙ ap (λ o. at (λ d. lock_in (client_of n d).slots) c (at (lock_in (client_of n c).slots) new.element.0 (Some o))) granted

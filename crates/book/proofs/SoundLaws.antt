@@ -119,7 +119,7 @@ module _ (n : Inner) (sound : Sound n) where
 
   module _ (c i : ℕ) (new : Held) (l : c < 16) (li : i < 32) where
     -- A lock takes the place of another on its element.
-    pub sound_slot : ((q : ℕ) → on (Some new) q ≡ on (get_or (client_of n c).slots i None) q) → Sound (with_slot n c i new)
+    pub sound_slot : ((q : ℕ) → on (Some new) q ≡ on (get_or (client_of n c).slots i None) q) → Sound (with_slot n c i (Some new))
     sound_slot same =
         sound_set c (record { state = (client_of n c).state; slots = set (client_of n c).slots i (Some new) }) n.cells l
         (length-set (client_of n c).slots i (Some new) ∙ sound.counted.slots c l) (λ e. omega (arith, kept e, sound.counted.once c e)) sound.sized.cells (λ e. omega (arith, kept e))
@@ -131,7 +131,7 @@ module _ (n : Inner) (sound : Sound n) where
 
     -- A new lock comes into a free slot, and its element's cell has one holder more.
     pub sound_gain : (x : Cell) → new.element.0 < 256 → get_or (client_of n c).slots i None ≡ None → lock_in (client_of n c).slots new.element.0 ≡ None →
-        x.holders ≡ (cell_of n new.element.0).holders + 1 → Sound (with_cell (with_slot n c i new) new.element.0 x)
+        x.holders ≡ (cell_of n new.element.0).holders + 1 → Sound (with_cell (with_slot n c i (Some new)) new.element.0 x)
     sound_gain x le unused none more =
         sound_set c (record { state = (client_of n c).state; slots = set (client_of n c).slots i (Some new) }) (set n.cells new.element.0 x) l
         (length-set (client_of n c).slots i (Some new) ∙ sound.counted.slots c l) once (length-set n.cells new.element.0 x ∙ sound.sized.cells) holders
@@ -168,5 +168,5 @@ module _ (n : Inner) (sound : Sound n) where
 
 -- A reader gains the write lock: the cell keeps its holders.
 pub sound_raise : (n : Inner) → Sound n → (c i : ℕ) (new : Held) (x : Cell) → c < 16 → i < 32 → ((q : ℕ) → on (Some new) q ≡ on (get_or (client_of n c).slots i None) q) →
-    x.holders ≡ (cell_of n new.element.0).holders → Sound (with_cell (with_slot n c i new) new.element.0 x)
-sound_raise n sound c i new x l li same more = sound_cell (with_slot n c i new) (sound_slot n sound c i new l li same) new.element.0 x more
+    x.holders ≡ (cell_of n new.element.0).holders → Sound (with_cell (with_slot n c i (Some new)) new.element.0 x)
+sound_raise n sound c i new x l li same more = sound_cell (with_slot n c i (Some new)) (sound_slot n sound c i new l li same) new.element.0 x more

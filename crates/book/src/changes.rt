@@ -7,11 +7,11 @@ ghost use Rattle.rules.specs.Calls.{with_client, with_lock, with_tie, hard_writt
 ghost use Rattle.inner.specs.Slots.{lock_in};
 ghost use Rattle.inner.specs.Whole.{client_of};
 ghost use Rattle.book.specs.Model.{model, Becomes};
-ghost use Rattle.book.specs.Requests.{Grants, finds_room};
+ghost use Rattle.book.specs.Requests.{Grants, Replaces, finds_room};
 
 use super::keeping::Book;
-use super::requests::{Admitted, Request, Turn};
-use inner::{Held, Inner};
+use super::requests::{Admitted, Request};
+use inner::{Held, Inner, KnownElement, Turn};
 use plant::Element;
 use ranks::Client;
 use rules::{Lock, Pointer};
@@ -29,14 +29,14 @@ impl Book {
     pub fn enter(&mut self, turn: Turn)
         ensures { Becomes self.old.inner self.new.inner (λ s. with_client s turn.client.0 turn.after) }
     {
-        self.inner.enter(turn.client, turn.after);
+        self.inner.enter(turn);
     }
 
     // The client loses all its locks and comes into the state of its turn.
     pub fn leave(&mut self, turn: Turn)
         ensures { Becomes self.old.inner self.new.inner (leaving (λ d. nat_eq d turn.client.0) turn.after) }
     {
-        self.inner.leave(turn.client, turn.after);
+        self.inner.leave(turn);
     }
 
     // A client's lock on an element becomes another.
@@ -44,18 +44,26 @@ impl Book {
         requires { is_some (lock_in (client_of self.old.inner client.0).slots element.0) ≡ true }
         ensures { Becomes self.old.inner self.new.inner (λ s. with_lock s client.0 element.0 lock) }
     {
-        // The place is there, since the lock is.
-        if let Some(place) = self.place_of(client, element) {
-            self.inner.set_slot(client, place, Held { lock, element });
-        }
+        self.replace(client, Held { lock, element });
+    }
+
+    // A lock takes the place of the one that its client holds on its element.
+    fn replace(&mut self, client: Client, held: Held)
+        requires { is_some (lock_in (client_of self.old.inner client.0).slots held.element.0) ≡ true }
+        ensures { Replaces self.old.inner self.new.inner client.0 held }
+    {
+        let Some(place) = self.place_of(client, held.element) else {
+            // The place is there, since the lock is.
+            unreachable!()
+        };
+        self.inner.set_slot(client, place, Some(held));
     }
 
     // A hard write comes to an element.
-    pub fn write_hard(&mut self, element: Element, written: i64)
-        requires { element.0 < 256 }
-        ensures { (m : Meaning) → model (put_meaning m element.0 written) self.new.inner ≡ hard_written (model m self.old.inner) element.0 written }
+    pub fn write_hard(&mut self, known: KnownElement, written: i64)
+        ensures { (m : Meaning) → model (put_meaning m known.element.0 written) self.new.inner ≡ hard_written (model m self.old.inner) known.element.0 written }
     {
-        self.inner.write_hard(element, written);
+        self.inner.write_hard(known, written);
     }
 
     // A pointer is tied or untied.
@@ -79,7 +87,7 @@ impl Book {
     }
 
     // A client gains a lock that it did not have; the copy is the table's number.
-    fn add_lock(&mut self, admitted: Admitted, copy: i64)
+    pub fn add_lock(&mut self, admitted: Admitted, copy: i64)
         requires none { lock_in (client_of self.old.inner admitted.request.client.0).slots admitted.request.element.0 ≡ None }
         requires room { finds_room self.old.inner admitted.request ≡ true }
         ensures { Grants self.old.inner self.new.inner admitted.request copy }
@@ -95,15 +103,17 @@ impl Book {
             changed: false,
             taken: false,
         };
-        // A place is free, since there is room.
-        if let Some(place) = self.free_place_of(client) {
-            self.inner.set_slot(client, place, Held { lock, element });
-            self.inner.gain(element, kind, copy);
-        }
+        let Some(place) = self.free_place_of(client) else {
+            // A place is free, since there is room.
+            unreachable!()
+        };
+        self.inner
+            .set_slot(client, place, Some(Held { lock, element }));
+        self.inner.gain(KnownElement { element }, kind, copy);
     }
 
     // A client's lock becomes one of another kind; the second version is the table's number.
-    fn raise_lock(&mut self, admitted: Admitted, second: i64, held: Lock)
+    pub fn raise_lock(&mut self, admitted: Admitted, second: i64, held: Lock)
         requires held { lock_in (client_of self.old.inner admitted.request.client.0).slots admitted.request.element.0 ≡ Some held }
         ensures { Grants self.old.inner self.new.inner admitted.request second }
     {
@@ -113,10 +123,7 @@ impl Book {
             element,
         } = admitted.request;
         let lock = Lock { kind, ..held };
-        // The place is there, since the lock is.
-        if let Some(place) = self.place_of(client, element) {
-            self.inner.set_slot(client, place, Held { lock, element });
-            self.inner.raise(element, kind, second);
-        }
+        self.replace(client, Held { lock, element });
+        self.inner.raise(KnownElement { element }, kind, second);
     }
 }

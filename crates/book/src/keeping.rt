@@ -11,8 +11,7 @@ ghost use Rattle.inner.specs.Whole.{nobody, client_of, cell_of, tie_of};
 ghost use Rattle.book.specs.Sound.{Sized, Counted};
 ghost use Rattle.book.specs.Requests.{state_after, lock_total};
 
-use super::requests::Turn;
-use inner::{Cell, ClientRecord, Inner};
+use inner::{Cell, ClientRecord, Inner, Turn, free_place, lowest_left, place_on};
 use plant::{Element, Refusal};
 use ranks::Client;
 use rules::{ClientState, Lock, Move, Pointer};
@@ -25,7 +24,7 @@ pub struct Book {
     ghost counted: { Counted inner },
 }
 
-// Client and element stay two parameters where nothing else is asked, as in the calls of the rules.
+// Client and element stay two parameters where nothing else is asked: no fact joins them.
 impl Book {
     // A client's record, if there is such a client.
     fn record(&self, client: Client) -> Option<&ClientRecord>
@@ -43,17 +42,17 @@ impl Book {
     }
 
     // The place of a client's first slot on an element.
-    pub(crate) fn place_of(&self, client: Client, element: Element) -> Option<usize>
+    pub fn place_of(&self, client: Client, element: Element) -> Option<usize>
         ensures { result ≡ position (λ s. on s element.0) (client_of self.now.inner client.0).slots }
     {
-        self.record(client)?.place_on(element)
+        place_on(&self.record(client)?.slots, element)
     }
 
     // The place of a client's first free slot.
-    pub(crate) fn free_place_of(&self, client: Client) -> Option<usize>
+    pub fn free_place_of(&self, client: Client) -> Option<usize>
         ensures { result ≡ position is_none (client_of self.now.inner client.0).slots }
     {
-        self.record(client)?.free_place()
+        free_place(&self.record(client)?.slots)
     }
 
     // How a client's state meets a call: the next state, or the refusal.
@@ -82,18 +81,18 @@ impl Book {
     }
 
     // Whether a client has fewer than 32 locks.
-    pub(crate) fn has_room(&self, client: Client) -> bool
+    pub fn has_room(&self, client: Client) -> bool
         ensures { result ≡ nat_lt (lock_total self.now.inner client.0) 32 }
     {
         self.record(client)
-            .is_none_or(|record| record.free_place().is_some())
+            .is_none_or(|record| free_place(&record.slots).is_some())
     }
 
     // A client's lowest-numbered element that is left for write back.
     pub fn next_left(&self, client: Client) -> Option<Element>
         ensures { option_map (λ e. e.0) result ≡ first_below 256 (λ e. is_left (lock_in (client_of self.now.inner client.0).slots e)) }
     {
-        self.record(client)?.lowest_left()
+        lowest_left(&self.record(client)?.slots)
     }
 
     // Whether an element is marked.

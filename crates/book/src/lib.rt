@@ -7,4 +7,5 @@ mod locking;
 mod requests;
 
 pub use keeping::Book;
-pub use requests::{Admitted, Request, Turn};
+pub use locking::is_covered;
+pub use requests::{Admitted, Request};

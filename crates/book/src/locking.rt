@@ -1,6 +1,7 @@
 // What a request for a lock meets in the book: who stands in its way, and who is thrown out.
-ghost use Rattle.std.specs.Prelude.{◌≡◌, ◌&&◌};
+ghost use Rattle.std.specs.Prelude.{◌≡◌, ℕ, Bool, ◌&&◌};
 ghost use Rattle.ranks.specs.Standing.{stands_above};
+ghost use Rattle.ranks.specs.declared.Client.{Client};
 ghost use Rattle.rules.specs.Scans.{some_below};
 ghost use Rattle.rules.specs.State.{is_committing};
 ghost use Rattle.rules.specs.Locking.{covers, leave as leaving};
@@ -11,17 +12,17 @@ ghost use Rattle.book.specs.Model.{Becomes};
 ghost use Rattle.book.specs.Requests.{blocks, finds_room};
 
 use super::keeping::Book;
-use super::requests::{Request, Turn};
+use super::requests::Request;
+use inner::Turn;
 use ranks::{Client, Rank, stands_above};
-use rules::{ClientState, LockKind};
+use rules::{ClientState, Lock, LockKind};
 
 impl Book {
     // Whether the client's own lock covers its request.
     pub fn is_covered(&self, request: Request) -> bool
         ensures { result ≡ covers (lock_in (client_of self.now.inner request.client.0).slots request.element.0) request.kind }
     {
-        let held = self.lock_of(request.client, request.element);
-        held.is_some_and(|lock| request.kind == LockKind::Read || lock.kind == LockKind::Write)
+        is_covered(self.lock_of(request.client, request.element), request.kind)
     }
 
     // Whether the client holds the element already, or has room for one lock more.
@@ -44,22 +45,29 @@ impl Book {
             })
     }
 
+    // Whether a client that stands in the way of a request passes a test.
+    fn some_blocker<F: Fn(Client) -> bool>(&self, request: Request, passes: F) -> bool
+        requires { F.IsAlwaysCallable passes }
+        ensures { (test : ℕ → Bool) → ((d : Client) (b : Bool) → F.post passes d b → b ≡ test d.0) → result ≡ some_below 16 (λ d. blocks self.now.inner request d && test d) }
+    {
+        (0..16).map(Client).any(|other| self.is_blocked_by(request, other) && passes(other))
+    }
+
     // Whether a client that stands in the way of a request also stands above.
     pub fn is_lost<K: Rank>(&self, ranks: &[K], request: Request) -> bool
         ensures { result ≡ some_below 16 (λ d. blocks self.now.inner request d && stands_above K.above ranks.now d request.client.0) }
     {
-        (0..16).map(Client).any(|other| {
-            self.is_blocked_by(request, other) && stands_above(ranks, other, request.client)
-        })
+        self.some_blocker(request, |other| stands_above(ranks, other, request.client))
     }
 
     // Whether a client that stands in the way of a request is committing.
     pub fn must_wait(&self, request: Request) -> bool
         ensures { result ≡ some_below 16 (λ d. blocks self.now.inner request d && is_committing (client_of self.now.inner d).state) }
     {
-        (0..16).map(Client).any(|other| {
-            self.is_blocked_by(request, other) && self.state_of(other) == ClientState::Committing
-        })
+        self.some_blocker(
+            request,
+            |other| self.state_of(other) == ClientState::Committing,
+        )
     }
 
     // All clients that stand in the way of a request are thrown out.
@@ -75,4 +83,11 @@ impl Book {
             }
         }
     }
+}
+
+// Whether a lock that is held covers one that is asked for.
+pub fn is_covered(held: Option<Lock>, asked: LockKind) -> bool
+    ensures { result ≡ covers held asked }
+{
+    held.is_some_and(|lock| asked == LockKind::Read || lock.kind == LockKind::Write)
 }

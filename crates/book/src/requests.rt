@@ -3,15 +3,7 @@ ghost use Rattle.std.specs.Prelude.{◌<◌};
 
 use plant::Element;
 use ranks::Client;
-use rules::{ClientState, LockKind};
-
-// A client and the state to which its call leads.
-#[derive(Clone, Copy)]
-pub struct Turn {
-    pub client: Client,
-    pub after: ClientState,
-    ghost known: { client.0 < 16 },
-}
+use rules::LockKind;
 
 // A client asks for a lock on an element.
 #[derive(Clone, Copy)]

@@ -14,6 +14,7 @@ use Rattle.rules.specs.declared.Answer.TheVariants.{Done, Number, WroteBack, Wai
 use Rattle.rules.specs.declared.ClientState.{ClientState}
 use Rattle.rules.specs.declared.Fate.{Fate}
 use Rattle.rules.specs.declared.Move.{Move}
+use Rattle.inner.specs.declared.known.KnownElement.{KnownElement}
 use Rattle.book.specs.Model.{model}
 use Rattle.book.specs.declared.requests.Request.{Request}
 use Rattle.engine.specs.declared.opening.Engine.{Engine}
@@ -48,6 +49,11 @@ lock_answer (Err r) = Refused r
 -- The state that an engine stands in, by what its table means.
 abbrev pub state_of : {T : Type 0} → (T → Meaning) → Engine T → State
 state_of meaning e = model (meaning e.table) e.book.inner
+
+-- An element that is known, or the refusal.
+abbrev pub element_in : Result KnownElement Refusal → Result Element Refusal
+element_in (Ok k) = Ok k.element
+element_in (Err r) = Err r
 
 -- How a call that looks at the rank list is met: by the client's number, by how many entries the list has, by
 -- the client's state.

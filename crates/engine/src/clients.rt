@@ -7,12 +7,12 @@ ghost use Rattle.book.specs.Requests.{state_after};
 ghost use Rattle.engine.specs.Answering.{done_answer, number_answer, back_answer, left_with, state_of, met_with_ranks};
 
 use super::opening::Engine;
-use book::Turn;
+use inner::Turn;
 use plant::{Element, Refusal, Table};
 use ranks::{Client, Rank};
 use rules::{Fate, Lock, LockKind, Move};
 
-// Client and element stay two parameters, as in the calls of the rules.
+// Client and element stay two parameters: no fact joins them.
 impl<T: Table> Engine<T> {
     // How a call that looks at the rank list is met: by whether there is such a client, then by how
     // many entries the list has, then by the client's state.
@@ -53,9 +53,7 @@ impl<T: Table> Engine<T> {
         ensures { left_with T.meaning self.now (number_answer result) ≡ read_call (state_of T.meaning self.now) client.0 element.0 }
     {
         self.book.meets(client, Move::Read)?;
-        if !self.has(element) {
-            return Err(Refusal::NoSuchElement);
-        }
+        self.known(element)?;
         let lock = self.book.lock_of(client, element).ok_or(Refusal::NoLock)?;
         Ok(lock.copy)
     }
@@ -65,9 +63,7 @@ impl<T: Table> Engine<T> {
         ensures { left_with T.meaning self.new (done_answer result) ≡ change_call (state_of T.meaning self.old) client.0 element.0 written }
     {
         self.book.meets(client, Move::Change)?;
-        if !self.has(element) {
-            return Err(Refusal::NoSuchElement);
-        }
+        self.known(element)?;
         let lock = self.book.lock_of(client, element).ok_or(Refusal::NoLock)?;
         if lock.kind != LockKind::Write {
             return Err(Refusal::NoLock);

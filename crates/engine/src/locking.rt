@@ -8,7 +8,8 @@ ghost use Rattle.engine.specs.Answering.{lock_answer, left_with, state_of, grant
 
 use super::answers::Locking;
 use super::opening::Engine;
-use book::{Admitted, Request, Turn};
+use book::{Admitted, Request};
+use inner::Turn;
 use plant::{Element, Refusal, Table};
 use ranks::{Client, Rank};
 use rules::{ClientState, LockKind, Move};
@@ -25,9 +26,7 @@ impl<T: Table> Engine<T> {
         ensures { left_with T.meaning self.new (lock_answer result) ≡ lock_call K.above ranks.now (state_of T.meaning self.old) client.0 kind element.0 }
     {
         self.meets_ranked(client, Move::Lock, ranks.len())?;
-        if !self.has(element) {
-            return Err(Refusal::NoSuchElement);
-        }
+        self.known(element)?;
         let request = Request {
             client,
             kind,

@@ -1,11 +1,13 @@
 // An engine over a table: opened, asked, closed.
-ghost use Rattle.std.specs.Prelude.{◌≡◌, ◌<◌, ◌≤◌, true, length, pos, negsuc, ◌≤ℤ◌};
-ghost use Rattle.plant.specs.Meaning.{has as has_element};
+ghost use Rattle.std.specs.Prelude.{◌≡◌, ◌≤◌, if◌then◌else◌, IfOk, Ok, Err, length, pos, negsuc, ◌≤ℤ◌};
+ghost use Rattle.plant.specs.Meaning.{has};
+ghost use Rattle.plant.specs.declared.refusals.Refusal.TheVariants.{NoSuchElement};
 ghost use Rattle.rules.specs.State.{opening};
-ghost use Rattle.engine.specs.Answering.{state_of};
+ghost use Rattle.engine.specs.Answering.{element_in, state_of};
 
 use book::Book;
-use plant::{Element, Table};
+use inner::KnownElement;
+use plant::{Element, Refusal, Table};
 
 // The table, and what is kept beside it.
 pub struct Engine<T: Table> {
@@ -56,11 +58,14 @@ impl<T: Table> Engine<T> {
         self.table.highest()
     }
 
-    // Whether the table has an element of this number; it then has a cell.
-    pub(crate) fn has(&self, element: Element) -> bool
-        ensures value { result ≡ has_element (T.meaning self.now.table) element.0 }
-        ensures small { result ≡ true → element.0 < 256 }
+    // An element that the table has; it then has a cell.
+    pub(crate) fn known(&self, element: Element) -> Result<KnownElement, Refusal>
+        ensures value { element_in result ≡ (if has (T.meaning self.now.table) element.0 then Ok element else Err NoSuchElement) }
+        ensures same { IfOk result (λ k. k.element ≡ element) }
     {
-        self.table.has(element)
+        if !self.table.has(element) {
+            return Err(Refusal::NoSuchElement);
+        }
+        Ok(KnownElement { element })
     }
 }

@@ -10,7 +10,8 @@ use plant::{Element, Refusal, Table};
 use rules::Pointer;
 
 impl<T: Table> Engine<T> {
-    // What a pointer is tied to, if it is bound.
+    // What a pointer is tied to, if it is bound. The test of the number is made here, where the refusal is known; the book answers
+    // for any number, so that reading it cannot fail.
     fn tie_of(&self, pointer: Pointer) -> Result<Option<Element>, Refusal>
         ensures { result ≡ (if nat_lt pointer.0 64 then Ok (tie_of self.now.book.inner pointer.0) else Err PointerOutOfRange) }
     {
@@ -34,9 +35,7 @@ impl<T: Table> Engine<T> {
         if self.tie_of(pointer)?.is_some() {
             return Err(Refusal::PointerAlreadyBound);
         }
-        if !self.has(element) {
-            return Err(Refusal::NoSuchElement);
-        }
+        self.known(element)?;
         self.book.tie(pointer, Some(element));
         Ok(())
     }
@@ -45,7 +44,7 @@ impl<T: Table> Engine<T> {
     pub fn remove(&mut self, pointer: Pointer) -> Result<(), Refusal>
         ensures { left_with T.meaning self.new (done_answer result) ≡ remove_call (state_of T.meaning self.old) pointer.0 }
     {
-        let _element = self.bound_element(pointer)?;
+        self.bound_element(pointer)?;
         self.book.tie(pointer, None);
         Ok(())
     }
@@ -65,12 +64,9 @@ impl<T: Table> Engine<T> {
     pub fn hard_write(&mut self, pointer: Pointer, written: i64) -> Result<(), Refusal>
         ensures { left_with T.meaning self.new (done_answer result) ≡ hard_write_call (state_of T.meaning self.old) pointer.0 written }
     {
-        let element = self.bound_element(pointer)?;
-        if !self.has(element) {
-            return Err(Refusal::NoSuchElement);
-        }
-        self.table.put(element, written)?;
-        self.book.write_hard(element, written);
+        let known = self.known(self.bound_element(pointer)?)?;
+        self.table.put(known.element, written)?;
+        self.book.write_hard(known, written);
         Ok(())
     }
 }

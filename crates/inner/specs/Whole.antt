@@ -1,5 +1,5 @@
 -- The inner struct as a whole: its parts by number, and what its operations leave.
-use Rattle.std.specs.Prelude.{ℕ, List, [], replicate, Some, None, Option, slice_index_or, slice_set}
+use Rattle.std.specs.Prelude.{ℕ, List, [], replicate, None, Option, slice_index_or, slice_set}
 use Rattle.plant.specs.declared.tables.Element.{Element}
 use Rattle.rules.specs.declared.ClientState.{ClientState}
 use Rattle.rules.specs.declared.ClientState.TheVariants.{Idle}
@@ -50,9 +50,9 @@ with_tied n p t = record { clients = n.clients; cells = n.cells; ties = slice_se
 abbrev pub entered_state : Inner → ℕ → ClientState → Inner
 entered_state n c after = with_record n c (record { state = after; slots = (client_of n c).slots })
 
--- A lock in one slot of a client.
-abbrev pub with_slot : Inner → ℕ → ℕ → Held → Inner
-with_slot n c i h = with_record n c (record { state = (client_of n c).state; slots = slice_set (client_of n c).slots i (Some h) })
+-- One slot of a client set.
+abbrev pub with_slot : Inner → ℕ → ℕ → Option Held → Inner
+with_slot n c i s = with_record n c (record { state = (client_of n c).state; slots = slice_set (client_of n c).slots i s })
 
 -- A client loses all its locks and comes into a state.
 abbrev pub left : Inner → ℕ → ClientState → Inner

@@ -59,10 +59,10 @@ pub fn release_all(cells: &mut [Cell], slots: &[Option<Held>])
     ensures { cells.new ≡ release_slots cells.old slots.now }
 {
     for held in slots.iter().flatten() {
-        let e = usize::from(held.element.0);
+        let place = usize::from(held.element.0);
         // Not by `get_mut`: what is written through it is not known of a slice afterwards.
-        if e < cells.len() {
-            cells[e].release(held.lock.kind);
+        if place < cells.len() {
+            cells[place].release(held.lock.kind);
         }
     }
 }

@@ -48,40 +48,41 @@ impl ClientRecord {
         }
     }
 
-    // The place of the first slot on an element.
-    pub fn place_on(&self, element: Element) -> Option<usize>
-        ensures { result ≡ position (λ s. on s element.0) self.now.slots }
-    {
-        self.slots
-            .iter()
-            .position(|slot| slot.is_some_and(|held| held.element == element))
-    }
-
-    // The place of the first free slot.
-    pub fn free_place(&self) -> Option<usize>
-        ensures { result ≡ position is_none self.now.slots }
-    {
-        self.slots.iter().position(|slot| slot.is_none())
-    }
-
     // The lock on an element.
     pub fn lock_on(&self, element: Element) -> Option<Lock>
         ensures { result ≡ lock_in self.now.slots element.0 }
     {
-        let place = self.place_on(element)?;
+        let place = place_on(&self.slots, element)?;
         self.slots[place].map(|held| held.lock)
     }
+}
 
-    // The lowest-numbered element that is left for write back.
-    pub fn lowest_left(&self) -> Option<Element>
-        ensures { option_map (λ e. e.0) result ≡ lowest_left self.now.slots }
-    {
-        self.slots
-            .iter()
-            .filter_map(left_element)
-            .min()
-            .map(Element)
-    }
+// Whether a slot holds a lock on an element.
+pub fn is_on(slot: &Option<Held>, element: Element) -> bool
+    ensures { result ≡ on slot.now element.0 }
+{
+    slot.is_some_and(|held| held.element == element)
+}
+
+// The place of the first slot on an element.
+pub fn place_on(slots: &[Option<Held>], element: Element) -> Option<usize>
+    ensures { result ≡ position (λ s. on s element.0) slots.now }
+{
+    slots.iter().position(|slot| is_on(slot, element))
+}
+
+// The place of the first free slot.
+pub fn free_place(slots: &[Option<Held>]) -> Option<usize>
+    ensures { result ≡ position is_none slots.now }
+{
+    slots.iter().position(|slot| slot.is_none())
+}
+
+// The lowest-numbered element that is left for write back.
+pub fn lowest_left(slots: &[Option<Held>]) -> Option<Element>
+    ensures { option_map (λ e. e.0) result ≡ lowest_left slots.now }
+{
+    slots.iter().filter_map(left_element).min().map(Element)
 }
 
 // A slot's element, if it is left for write back.

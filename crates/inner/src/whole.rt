@@ -4,6 +4,7 @@ ghost use Rattle.inner.specs.Cells.{written_hard, gained, raised};
 ghost use Rattle.inner.specs.Whole.{fresh, client_of, cell_of, with_cell, with_tied, entered_state, with_slot, left};
 
 use super::cells::{Cell, release_all};
+use super::known::{KnownElement, Turn};
 use super::slots::{ClientRecord, Held};
 use plant::Element;
 use ranks::Client;
@@ -18,8 +19,8 @@ pub struct Inner {
     pub ties: [Option<Element>; 64],
 }
 
-// Who calls shows that the numbers are below the arrays' lengths: the book has that in its types. Each operation passes on what
-// the record or the cell does, since its result is said by value; one that lent the cell out could not say that.
+// A turn and a known element have a place in the arrays; of a slot and of a pointer, who calls shows that they do. Each operation
+// passes on what the record or the cell does, since its result is said by value; one that lent the cell out could not say that.
 impl Inner {
     #[tactic(auto, unfolding(crate::specs::Whole::fresh))]
     pub fn new() -> Inner
@@ -41,62 +42,57 @@ impl Inner {
         }
     }
 
-    // A client comes into a state.
-    pub fn enter(&mut self, client: Client, state: ClientState)
-        requires { client.0 < 16 }
-        ensures { self.new ≡ entered_state self.old client.0 state }
+    // A client comes into the state of its turn.
+    pub fn enter(&mut self, turn: Turn)
+        ensures { self.new ≡ entered_state self.old turn.client.0 turn.after }
     {
-        self.clients[usize::from(client.0)].state = state;
+        self.clients[usize::from(turn.client.0)].state = turn.after;
     }
 
-    // A lock comes into one slot of a client.
-    pub fn set_slot(&mut self, client: Client, place: usize, held: Held)
+    // One slot of a client is set.
+    pub fn set_slot(&mut self, client: Client, place: usize, slot: Option<Held>)
         requires client { client.0 < 16 }
         requires place { place < 32 }
-        ensures { self.new ≡ with_slot self.old client.0 place held }
+        ensures { self.new ≡ with_slot self.old client.0 place slot }
     {
-        self.clients[usize::from(client.0)].slots[place] = Some(held);
+        self.clients[usize::from(client.0)].slots[place] = slot;
     }
 
-    // A client loses all its locks and comes into a state.
+    // A client loses all its locks and comes into the state of its turn.
     #[tactic(auto, unfolding(crate::specs::Whole::no_locks))]
-    pub fn leave(&mut self, client: Client, state: ClientState)
-        requires client { client.0 < 16 }
-        requires slots { length (client_of self.old client.0).slots ≡ 32 }
-        ensures { self.new ≡ left self.old client.0 state }
+    pub fn leave(&mut self, turn: Turn)
+        requires { length (client_of self.old turn.client.0).slots ≡ 32 }
+        ensures { self.new ≡ left self.old turn.client.0 turn.after }
     {
-        let c = usize::from(client.0);
-        let slots = self.clients[c].slots;
+        let client = usize::from(turn.client.0);
+        let slots = self.clients[client].slots;
         release_all(&mut self.cells, &slots);
-        self.clients[c] = ClientRecord {
-            state,
+        self.clients[client] = ClientRecord {
+            state: turn.after,
             slots: [None; 32],
         };
     }
 
     // A hard write comes to an element's cell.
-    pub fn write_hard(&mut self, element: Element, number: i64)
-        requires { element.0 < 256 }
-        ensures { self.new ≡ with_cell self.old element.0 (written_hard (cell_of self.old element.0) number) }
+    pub fn write_hard(&mut self, known: KnownElement, number: i64)
+        ensures { self.new ≡ with_cell self.old known.element.0 (written_hard (cell_of self.old known.element.0) number) }
     {
-        self.cells[usize::from(element.0)].write_hard(number);
+        self.cells[usize::from(known.element.0)].write_hard(number);
     }
 
     // A new lock comes to an element's cell.
-    pub fn gain(&mut self, element: Element, kind: LockKind, number: i64)
-        requires element { element.0 < 256 }
-        requires room { (cell_of self.old element.0).holders < 65535 }
-        ensures { self.new ≡ with_cell self.old element.0 (gained (cell_of self.old element.0) kind number) }
+    pub fn gain(&mut self, known: KnownElement, kind: LockKind, number: i64)
+        requires { (cell_of self.old known.element.0).holders < 65535 }
+        ensures { self.new ≡ with_cell self.old known.element.0 (gained (cell_of self.old known.element.0) kind number) }
     {
-        self.cells[usize::from(element.0)].gain(kind, number);
+        self.cells[usize::from(known.element.0)].gain(kind, number);
     }
 
     // A reader of an element gains the write lock.
-    pub fn raise(&mut self, element: Element, kind: LockKind, number: i64)
-        requires { element.0 < 256 }
-        ensures { self.new ≡ with_cell self.old element.0 (raised (cell_of self.old element.0) kind number) }
+    pub fn raise(&mut self, known: KnownElement, kind: LockKind, number: i64)
+        ensures { self.new ≡ with_cell self.old known.element.0 (raised (cell_of self.old known.element.0) kind number) }
     {
-        self.cells[usize::from(element.0)].raise(kind, number);
+        self.cells[usize::from(known.element.0)].raise(kind, number);
     }
 
     // A pointer is tied or untied.

@@ -1,21 +1,11 @@
-use Rattle.std.proofs.Common.{sym, ap, ◌∙◌}
-use Rattle.inner.specs.declared.slots.Held.{Held}
-use Rattle.inner.specs.Whole.{client_of, with_slot}
+use Rattle.std.proofs.Common.{ap, ◌∙◌}
 use Rattle.book.specs.Model.{model}
 use Rattle.book.proofs.ReadLaws.{sound_of}
-use Rattle.book.proofs.ChangeLaws.{owed, place_there, other_sound, other_model}
+use Rattle.book.proofs.ChangeLaws.{other_model}
 use Rattle.book.proofs.keeping.Book.set_lock.Goals as goal
 
-pub invariant_of-self : goal.invariant_of-self
-invariant_of-self c =
-    owed c.set_slot.new.self (with_slot c.args.self.now.inner c.args.client.0 c.in-Some.place (record { lock = c.args.lock; element = c.args.element })) c.set_slot.ensures
-    (other_sound c.args.self.now.inner (sound_of c.args.self.now) c.args.client.0 (record { lock = c.args.lock; element = c.args.element }) c.in-Some.place (sym c.in-Some.ensures))
-
-pub returns-in-Some : goal.returns-in-Some
-returns-in-Some c =
-    let new : Held = record { lock = c.args.lock; element = c.args.element } in
-    λ m. ap (model m) c.set_slot.ensures
-    ∙ other_model c.args.self.now.inner (sound_of c.args.self.now) c.args.client.0 new c.in-Some.place (sym c.in-Some.ensures) m
-
-pub returns-in_default : goal.returns-in_default
-returns-in_default c = λ m. place_there (client_of c.args.self.now.inner c.args.client.0).slots c.args.element.0 _ _ c.requires (sym c.place_of.ensures ∙ c.in_default.is)
+pub returns : goal.returns
+returns c =
+    let (place, there, is) = c.replace.ensures in
+    λ m. ap (model m) is
+    ∙ other_model c.args.self.now.inner (sound_of c.args.self.now) c.args.client.0 (record { lock = c.args.lock; element = c.args.element }) place there m
