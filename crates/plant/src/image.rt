@@ -90,9 +90,7 @@ impl<'a> Table for Image<'a> {
         ensures bytes { self.new.bytes.now ≡ bytes_after_put self.old.bytes.now element.0 number }
         ensures lender { self.new.bytes.ghost_name ≡ self.old.bytes.ghost_name }
     {
-        if element.0 >= self.count() {
-            return Err(Refusal::NoSuchElement);
-        }
+        self.get(element)?;
         let number = i16::try_from(number).map_err(|_| Refusal::NumberOutsideLimits)?;
         // Not by `as_chunks_mut`, which says nothing of the bytes afterwards.
         let place = 2 + 2 * usize::from(element.0);
