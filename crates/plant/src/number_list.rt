@@ -1,5 +1,5 @@
 // A table on the caller's list of 32-bit numbers.
-ghost use Rattle.std.specs.Prelude.{IsTrue, ◌≡◌, min, length, take, pos, negsuc, ◌≤ℤ◌, IfOk, slice_index_or};
+ghost use Rattle.std.specs.Prelude.{IsTrue, ◌≡◌, min, length, take, pos, negsuc, IfOk, slice_index_or};
 ghost use Rattle.plant.specs.EntryTable.{list_is_bounded, list_meaning, entries_after_put};
 ghost use Rattle.plant.specs.Meaning.{within, get_answer, put_answer, put_meaning};
 
