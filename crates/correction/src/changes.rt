@@ -28,6 +28,7 @@ impl fmt::Display for Correction {
     }
 }
 
+// An element and its number stay two parameters, as in `put`: no fact joins them.
 fn change(image: &mut Image, element: Element, number: i64) -> Result<Correction, Refusal>
     ensures value { result ≡ change_answer image.old.bytes.now element number }
     ensures bytes { image.new.bytes.now ≡ bytes_after_put image.old.bytes.now element.0 number }

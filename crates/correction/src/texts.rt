@@ -18,7 +18,8 @@ pub fn read_number(text: &str) -> Option<i64>
     text.parse::<i64>().ok()
 }
 
-// One line of the listing of a table.
+// One line of the listing of a table. Not a struct with a `Display`, as `Correction` is: an element with
+// its number is nowhere else one value, and the struct would be longer than this.
 pub fn line(heap: Global, element: Element, number: i64) -> Result<String, AllocError>
     ensures { IfOk result (λ s. string_bytes s ≡ line_of element.0 number) }
 {

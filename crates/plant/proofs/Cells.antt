@@ -5,6 +5,7 @@ use Rattle.std.specs.Simd.{first_chunks}
 use Rattle.std.proofs.lemmas.List.{get_or-take, get_or-drop, drop-drop, length-set, get_or-set_same, get_or-set_other, same_lists}
 use Rattle.std.proofs.lemmas.Bool.{lt-ltb, le-ltb, cond-true, cond-false, ltb-true, and_parts, and_left, and_from, cases_eq}
 use Rattle.plant.specs.declared.refusals.Refusal.TheVariants.{NoSuchElement}
+use Rattle.plant.proofs.Readings.{read_below}
 use Rattle.plant.specs.Meaning.{has, within, get_answer, put_answer, put_meaning, with_number}
 use Rattle.plant.specs.ByteTable.{word_at, image_count, cell_place, signed_16, bits_16, cell_number, first_values, length_first_values, image_meaning, with_cell, bytes_after_put}
 
@@ -72,6 +73,10 @@ write_two (a ∷ b ∷ xs) (suc p) x y h = ap (λ l. a ∷ l) (write_two (b ∷ 
 -- An element that the image has lies in its bytes.
 pub has_cell : (bs : List ℕ) (e : ℕ) → e < image_count bs → 3 + 2 * e < length bs
 has_cell bs e h = grind arith
+
+-- An element that was read is one that the image has.
+pub got_below : (bs : List ℕ) (e : ℕ) (v : ℤ) → Ok v ≡ get_answer (image_meaning bs) e → e < image_count bs
+got_below bs e v h = let below = read_below (image_meaning bs) e v h in omega (arith, length_first_values (image_count bs) (cell_number bs))
 
 pub get_is_cell : (bs : List ℕ) (e : ℕ) → e < image_count bs → get_answer (image_meaning bs) e ≡ Ok (cell_number bs e)
 get_is_cell bs e h =

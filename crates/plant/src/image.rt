@@ -1,7 +1,7 @@
 // A table on the caller's bytes: two for the count, then two for each element, the higher byte first.
-ghost use Rattle.std.specs.Prelude.{IsTrue, drop, ◌≡◌, ◌+◌, ◌/◌, ◌%◌, ◌<◌, ◌≤◌, length, pos, negsuc, ◌≤ℤ◌, IfOk, slice_set};
+ghost use Rattle.std.specs.Prelude.{IsTrue, drop, ◌≡◌, length, pos, negsuc, IfOk};
 ghost use Rattle.std.specs.Simd.{first_chunks};
-ghost use Rattle.plant.specs.ByteTable.{image_is_bounded, image_check, cell_place, image_count, cell_number, image_meaning, bytes_after_put};
+ghost use Rattle.plant.specs.ByteTable.{image_is_bounded, image_check, image_count, cell_number, image_meaning, bytes_after_put};
 ghost use Rattle.plant.specs.Meaning.{within, get_answer, put_answer, put_meaning};
 
 use super::refusals::Refusal;
@@ -90,9 +90,7 @@ impl<'a> Table for Image<'a> {
         ensures bytes { self.new.bytes.now ≡ bytes_after_put self.old.bytes.now element.0 number }
         ensures lender { self.new.bytes.ghost_name ≡ self.old.bytes.ghost_name }
     {
-        if element.0 >= self.count() {
-            return Err(Refusal::NoSuchElement);
-        }
+        self.get(element)?;
         let number = i16::try_from(number).map_err(|_| Refusal::NumberOutsideLimits)?;
         // Not by `as_chunks_mut`, which says nothing of the bytes afterwards.
         let place = 2 + 2 * usize::from(element.0);

@@ -1,5 +1,5 @@
 // A table on the caller's list of 32-bit numbers.
-ghost use Rattle.std.specs.Prelude.{IsTrue, ◌≡◌, min, length, take, pos, negsuc, ◌≤ℤ◌, IfOk, slice_index_or};
+ghost use Rattle.std.specs.Prelude.{IsTrue, ◌≡◌, min, length, take, pos, negsuc, IfOk, slice_index_or};
 ghost use Rattle.plant.specs.EntryTable.{list_is_bounded, list_meaning, entries_after_put};
 ghost use Rattle.plant.specs.Meaning.{within, get_answer, put_answer, put_meaning};
 
@@ -73,9 +73,7 @@ impl<'a> Table for NumberList<'a> {
         ensures entries { self.new.entries.now ≡ entries_after_put self.old.entries.now element.0 number }
         ensures lender { self.new.entries.ghost_name ≡ self.old.entries.ghost_name }
     {
-        if element.0 >= self.count() {
-            return Err(Refusal::NoSuchElement);
-        }
+        self.get(element)?;
         let number = i32::try_from(number).map_err(|_| Refusal::NumberOutsideLimits)?;
         // Not by `get_mut`, which says nothing of the list afterwards.
         self.entries[usize::from(element.0)] = number;

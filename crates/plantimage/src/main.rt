@@ -30,6 +30,7 @@ enum Failure<'a> {
     Printing(#[from] io::Error),
 }
 
+// As in `lineplay`: a crate of its own for these ten lines would be no plainer.
 fn main(rt: HostRuntime) -> ExitCode {
     match run(&rt) {
         Ok(code) => code,
@@ -64,8 +65,12 @@ fn obey<'a>(rt: &HostRuntime, words: &'a [String]) -> Result<(), Failure<'a>> {
 }
 
 // The handle and the file's name go on as they came; a struct of the two would have nothing to say.
+fn read<'a>(rt: &HostRuntime, file: &'a str) -> Result<Vec<u8>, Failure<'a>> {
+    fs::read(rt, file).map_err(|error| Failure::NotRead { file, error })
+}
+
 fn show<'a>(rt: &HostRuntime, file: &'a str) -> Result<(), Failure<'a>> {
-    let mut bytes = fs::read(rt, file).map_err(|error| Failure::NotRead { file, error })?;
+    let mut bytes = read(rt, file)?;
     Image::check(bytes.as_slice()).map_err(|refusal| Failure::Refused { file, refusal })?;
     Ok(list(rt, &Image::open(bytes.as_mut_slice()))?)
 }
@@ -91,7 +96,7 @@ fn set<'a>(
 ) -> Result<(), Failure<'a>> {
     let element = read_element(element).ok_or(Failure::NoElement { text: element })?;
     let number = read_number(number).ok_or(Failure::NoNumber { text: number })?;
-    let mut bytes = fs::read(rt, file).map_err(|error| Failure::NotRead { file, error })?;
+    let mut bytes = read(rt, file)?;
     let done = correct(bytes.as_mut_slice(), element, number).map_err(|refusal| Failure::Refused {
         file,
         refusal,

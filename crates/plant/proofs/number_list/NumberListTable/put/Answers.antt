@@ -1,7 +1,15 @@
-use Rattle.std.proofs.Common.{◌≡◌, ap, ◌∙◌, slice_set, w32, to_z, of_z, rules}
+use Rattle.std.proofs.Common.{◌≡◌, ap, ◌∙◌, slice_set, w32, to_z, of_z, arith, rules}
+use Rattle.std.proofs.lemmas.List.{length-take}
 use Rattle.plant.specs.EntryTable.{list_meaning, entries_after_put}
 use Rattle.plant.proofs.Entries.{put_is_entries}
+use Rattle.plant.proofs.Readings.{read_below}
 use Rattle.plant.proofs.number_list.NumberListTable.put.Goals as goal
+
+pub bounds-self-from : goal.bounds-self-from
+bounds-self-from c =
+    let entries = c.args.self.now.entries.now in
+    let there = read_below (list_meaning entries) c.args.element.0 _ c.in_ok-get.ensures.value in
+    omega (arith, there, length-take 256 entries, c.from.ensures)
 
 pub returns-clause-after : goal.returns-clause-after
 returns-clause-after c =
