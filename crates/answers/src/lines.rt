@@ -61,7 +61,7 @@ fn fault_text(fault: Fault) -> Line
 
 // Writes what a line of a script brings, the call's answer or the line's own fault, from a place on, and gives the place
 // behind; a buffer that is too short, or a place beyond it, is refused, and the buffer left as it is. The place stands beside the
-// buffer, which may hold other lines before it.
+// buffer, since a place beyond it is refused too, and `&mut out[at..]` would stop there.
 pub fn write_answer(
     out: &mut [u8],
     at: usize,
@@ -76,10 +76,10 @@ pub fn write_answer(
         Err(fault) => fault_text(fault),
     };
     let bytes = text.as_str().as_bytes();
-    if at > out.len() || out.len() - at < bytes.len() {
-        return Err(Refusal::BufferTooShort);
-    }
-    let end = at + bytes.len();
+    let end = at
+        .checked_add(bytes.len())
+        .filter(|end| *end <= out.len())
+        .ok_or(Refusal::BufferTooShort)?;
     out[at..end].copy_from_slice(bytes);
     Ok(end)
 }

@@ -40,7 +40,6 @@ fn walk_along(line: &[u8], shape: Shape) -> Result<Numbers, usize>
 {
     let mut cutter = Cutter { line, offset: 0 };
     let mut numbers = Numbers::none();
-    // A loop, since the cutter goes on with each part.
     for part in shape.parts() {
         let item = cutter.next_item();
         numbers = fit(item.kind, *part, numbers).ok_or(item.place)?;
