@@ -11,9 +11,12 @@ use plant::Refusal;
 use rules::{Answer, Fate};
 use script::Fault;
 
-// An answer line. The longest, of 33 bytes, is a fault with three digits and twenty. Its parts are pushed and not written by
-// `write!`, since that promises nothing of a value whose printing fails, and no answer line may fail.
-type Line = ArrayString<33>;
+// As many bytes as an answer line may have: the longest is a fault with three digits and twenty.
+pub const LONGEST: usize = 33;
+
+// An answer line. Its parts are pushed and not written by `write!`, since that promises nothing of a value whose printing fails,
+// and no answer line may fail.
+type Line = ArrayString<LONGEST>;
 
 // The line of a call's answer.
 fn answer_text(answer: Answer) -> Line

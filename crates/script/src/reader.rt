@@ -11,7 +11,7 @@ use items::{Cutter, Kind};
 use plant::Refusal;
 
 // As many bytes as a line may have.
-const MOST_BYTES: usize = 120;
+pub const MOST_BYTES: usize = 120;
 
 // Why a line is refused, and the byte place of it, counted from 1.
 #[derive(Clone, Copy, PartialEq, Eq, Debug)]
