@@ -3,4 +3,4 @@
 
 mod lines;
 
-pub use lines::{prints_right, write_answer};
+pub use lines::{LONGEST, prints_right, write_answer};

@@ -11,9 +11,12 @@ use plant::Refusal;
 use rules::{Answer, Fate};
 use script::Fault;
 
-// An answer line. The longest, of 33 bytes, is a fault with three digits and twenty. Its parts are pushed and not written by
-// `write!`, since that promises nothing of a value whose printing fails, and no answer line may fail.
-type Line = ArrayString<33>;
+// As many bytes as an answer line may have: the longest is a fault with three digits and twenty.
+pub const LONGEST: usize = 33;
+
+// An answer line. Its parts are pushed and not written by `write!`, since that promises nothing of a value whose printing fails,
+// and no answer line may fail.
+type Line = ArrayString<LONGEST>;
 
 // The line of a call's answer.
 fn answer_text(answer: Answer) -> Line
@@ -61,7 +64,7 @@ fn fault_text(fault: Fault) -> Line
 
 // Writes what a line of a script brings, the call's answer or the line's own fault, from a place on, and gives the place
 // behind; a buffer that is too short, or a place beyond it, is refused, and the buffer left as it is. The place stands beside the
-// buffer, which may hold other lines before it.
+// buffer, since a place beyond it is refused too, and `&mut out[at..]` would stop there.
 pub fn write_answer(
     out: &mut [u8],
     at: usize,
@@ -76,10 +79,10 @@ pub fn write_answer(
         Err(fault) => fault_text(fault),
     };
     let bytes = text.as_str().as_bytes();
-    if at > out.len() || out.len() - at < bytes.len() {
-        return Err(Refusal::BufferTooShort);
-    }
-    let end = at + bytes.len();
+    let end = at
+        .checked_add(bytes.len())
+        .filter(|end| *end <= out.len())
+        .ok_or(Refusal::BufferTooShort)?;
     out[at..end].copy_from_slice(bytes);
     Ok(end)
 }

@@ -11,12 +11,12 @@ use Rattle.forms.specs.declared.makers.Form.{Form}
 use Rattle.forms.specs.declared.shapes.RankKind.{RankKind}
 use Rattle.script.specs.Reading.{Reads}
 use Rattle.script.specs.declared.reader.Fault.{Fault}
-use Rattle.driver.specs.declared.playing.Opening.{Opening}
+use Rattle.driver.specs.declared.opening.Opening.{Opening}
 
 -- A line before the open: it is faulty, with the fault that it reads as where nothing was opened, or it is the open.
 pub data Opens (line : List ℕ) (answer : Result Opening Fault) : Type 0 where
   no_open : (fault : Fault) → Reads None line (Err fault) → answer ≡ Err fault → Opens line answer
-  opened : (n : ℕ) (kind : RankKind) → Reads None line (Ok (Form.Open n kind)) → answer ≡ Ok (record { count = n; kind = kind }) → Opens line answer
+  opened : (opening : Opening) → Reads None line (Ok (Form.Open opening.count opening.kind)) → answer ≡ Ok opening → Opens line answer
 
 -- A call is made of an engine: the answer, the state and the rank list are those of one step of the rules, and every run that
 -- has led to the engine goes on with it, with its law.

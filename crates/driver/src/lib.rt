@@ -2,7 +2,9 @@
 #![tactic(auto)]
 
 mod asked;
+mod opening;
 mod playing;
 
 pub use asked::ScriptRank;
-pub use playing::{Opening, first_line, play_line};
+pub use opening::Opening;
+pub use playing::{first_line, play_line};

@@ -2,18 +2,12 @@
 ghost use Rattle.driver.specs.Playing.{Opens, Plays};
 
 use super::asked::ScriptRank;
+use super::opening::Opening;
 use engine::Engine;
-use forms::{Form, RankKind};
+use forms::Form;
 use plant::Table;
 use rules::Answer;
 use script::{Fault, read_line};
-
-// What an open asks for: how many elements, and which kind of rank.
-#[derive(Clone, Copy)]
-pub struct Opening {
-    pub count: u16,
-    pub kind: RankKind,
-}
 
 // A line before the open.
 pub fn first_line(line: &[u8]) -> Result<Opening, Fault>

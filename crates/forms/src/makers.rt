@@ -5,7 +5,8 @@ ghost use Rattle.forms.specs.Forms.{in_range, noted, blank, form_of, opens};
 use super::shapes::{RankKind, Role, Shape};
 use rules::LockKind;
 
-// What a line asks for, with its plain numbers.
+// What a line asks for, with its plain numbers. They become clients, elements and pointers where a form is made into a call, and
+// nowhere else.
 #[derive(Clone, Copy, PartialEq, Eq, Debug)]
 pub enum Form {
     Open {

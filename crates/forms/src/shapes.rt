@@ -125,7 +125,7 @@ const BACK: Part = Part::Word(Word::Back);
 
 const END_WORD: Part = Part::Word(Word::End);
 
-const GIVEUP: Part = Part::Word(Word::GiveUp);
+const GIVE_UP: Part = Part::Word(Word::GiveUp);
 
 const CLEAR: Part = Part::Word(Word::Clear);
 
@@ -137,7 +137,7 @@ const GET: Part = Part::Word(Word::Get);
 
 const PUT: Part = Part::Word(Word::Put);
 
-const GRADE: Part = Part::Word(Word::Grade);
+const GRADE_WORD: Part = Part::Word(Word::Grade);
 
 const DUE: Part = Part::Word(Word::Due);
 
@@ -149,7 +149,7 @@ const POINTER: Part = Part::Number(Role::Pointer);
 
 const COUNT: Part = Part::Number(Role::Count);
 
-const RANK: Part = Part::Number(Role::Grade);
+const GRADE: Part = Part::Number(Role::Grade);
 
 const MINUTE: Part = Part::Number(Role::Minute);
 
@@ -163,10 +163,12 @@ impl Shape {
         ensures { result.now ≡ parts_of self }
     {
         match self {
-            Shape::Open(RankKind::Grade) => &[LEFT, OPEN, COUNT, LEFT, GRADE, RIGHT, RIGHT, END],
+            Shape::Open(RankKind::Grade) => &[
+                LEFT, OPEN, COUNT, LEFT, GRADE_WORD, RIGHT, RIGHT, END,
+            ],
             Shape::Open(RankKind::Due) => &[LEFT, OPEN, COUNT, LEFT, DUE, RIGHT, RIGHT, END],
             Shape::Begin(RankKind::Grade) => &[
-                LEFT, BEGIN, CLIENT, LEFT, GRADE, RANK, RIGHT, RIGHT, END,
+                LEFT, BEGIN, CLIENT, LEFT, GRADE_WORD, GRADE, RIGHT, RIGHT, END,
             ],
             Shape::Begin(RankKind::Due) => &[
                 LEFT, BEGIN, CLIENT, LEFT, DUE, MINUTE, WEIGHT, RIGHT, RIGHT, END,
@@ -182,7 +184,7 @@ impl Shape {
             Shape::Commit => &[LEFT, COMMIT, CLIENT, RIGHT, END],
             Shape::Back => &[LEFT, BACK, CLIENT, RIGHT, END],
             Shape::End => &[LEFT, END_WORD, CLIENT, RIGHT, END],
-            Shape::GiveUp => &[LEFT, GIVEUP, CLIENT, RIGHT, END],
+            Shape::GiveUp => &[LEFT, GIVE_UP, CLIENT, RIGHT, END],
             Shape::Clear => &[LEFT, CLEAR, CLIENT, RIGHT, END],
             Shape::Bind => &[LEFT, BIND, POINTER, ELEMENT, RIGHT, END],
             Shape::Remove => &[LEFT, REMOVE, POINTER, RIGHT, END],

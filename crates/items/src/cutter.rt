@@ -86,7 +86,7 @@ impl Kind<'_> {
 }
 
 impl<'a> Cutter<'a> {
-    // The next item of the line. It is no iterator, since behind the last item the line's end comes, and comes again.
+    // The next item of the line. It is no iterator, since the line's end is an item with a place, which `None` could not carry.
     pub fn next_item(&mut self) -> Item<'a>
         ensures first { left self.old ≡ seen result ∷ after_item (mark_of result.kind) (left self.new) }
         ensures on { behind (left self.old) ≡ left self.new }

@@ -1,7 +1,8 @@
 -- Lines as they are read off the bytes that are left.
-use Rattle.std.proofs.Common.{◌≡◌, ◌≢◌, ◌↔◌, IsTrue, ℕ, zero, suc, ◌+◌, ◌-◌, Bool, true, false, cond, ◌&&◌, eqb, nat_lt, length-append, List, [], ◌∷◌, ◌++◌, length, get_or, take, drop, None, Some, Option, IfSome, refl, sym, ap, ◌∙◌, arith, ⊎_elim}
-use Rattle.std.proofs.lemmas.Bool.{cases_eq, cases_lt, eq-eqb, ne_eqb, lt-ltb, ltb-true}
-use Rattle.std.proofs.lemmas.List.{drop_more, drop_all}
+use Rattle.std.proofs.Common.{◌≡◌, ◌≢◌, ◌↔◌, IsTrue, ℕ, zero, suc, ◌+◌, ◌-◌, Bool, true, false, cond, ◌&&◌, eqb, nat_lt, length-append, List, [], ◌∷◌, ◌++◌, length, get_or, take, drop, All, None, Some, Option, IfSome, refl, sym, ap, ◌∙◌, arith, ⊎_elim}
+use Rattle.std.proofs.lemmas.Bool.{cases_eq, cases_lt, eq-eqb, ne_eqb, eqb-false, lt-ltb, ltb-true}
+use Rattle.std.proofs.lemmas.List.{drop_more, drop_all, take_all, take-take}
+use Rattle.std.proofs.lemmas.List.Elements.{All-nil, All-same, All-more}
 use lib.Pointwise.{pointwise}
 use Rattle.std.specs.List.{ends_with}
 use Rattle.std.specs.Option.{option_map}
@@ -53,10 +54,24 @@ front_first (suc n) (x ∷ xs) = by (front_first n xs) (eqb x 10) refl
 
 -- what is kept of a line, where the bytes that are left are known
 pub kept : (left : Option (List ℕ)) (n : ℕ) (empty read line : List ℕ) → n ≡ 121 → empty ≡ [] → IfSome (option_map (take n) left) (λ front. read ≡ empty ++ take_through 10 front) →
-    line ≡ strip_last 10 read → IfSome left (λ bytes. line ≡ take 121 (first_piece 10 bytes))
+    line ≡ take 121 (strip_last 10 read) → IfSome left (λ bytes. line ≡ take 121 (first_piece 10 bytes))
 kept None n empty read line limit none through cut = tt
 kept (Some bytes) n empty read line limit none through cut =
-    cut ∙ ap (strip_last 10) (through ∙ ap (λ e. e ++ take_through 10 (take n bytes)) none) ∙ front_first n bytes ∙ ap (λ k. take k (first_piece 10 bytes)) limit
+    cut ∙ ap (λ r. take 121 (strip_last 10 r)) (through ∙ ap (λ e. e ++ take_through 10 (take n bytes)) none) ∙
+    ap (take 121) (front_first n bytes ∙ ap (λ k. take k (first_piece 10 bytes)) limit) ∙ take-take 121 121 (first_piece 10 bytes) (omega arith)
+
+-- what was read up to a byte 10 has none once its last is off
+pub no_break : (read : List ℕ) → All (λ b. b ≢ 10) (take (length read - 1) read) → All (λ b. b ≢ 10) (strip_last 10 read)
+no_break [] h = All-nil (λ b. b ≢ 10)
+no_break (x ∷ xs) h = by (ends_with_byte 10 (x ∷ xs)) refl
+  where
+    by : (b : Bool) → ends_with_byte 10 (x ∷ xs) ≡ b → All (λ b. b ≢ 10) (cond b (take (length (x ∷ xs) - 1) (x ∷ xs)) (x ∷ xs))
+    by true e = h
+    by false e =
+        let n = length (x ∷ xs) - 1 in
+        let last : get_or (x ∷ xs) n 0 ≢ 10 = eqb-false _ _ (sym (some_last x xs) ∙ e) in
+        let all : take (n + 1) (x ∷ xs) ≡ x ∷ xs = take_all (n + 1) (x ∷ xs) (omega arith) in
+        All-same (λ b. b ≢ 10) _ _ (sym all) (All-more (λ b. b ≢ 10) (x ∷ xs) n 0 (omega arith) h last)
 
 -- a read that took something had something left
 pub started : (left : Option (List ℕ)) (n : ℕ) (empty read : List ℕ) (count : ℕ) → n ≡ 121 → IfSome (option_map (take n) left) (λ front. read ≡ empty ++ take_through 10 front) →

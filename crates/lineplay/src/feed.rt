@@ -1,12 +1,15 @@
 // Lines from an input of any bytes, and the answers to them.
-ghost use Rattle.std.specs.Prelude.{◌≡◌, ◌≢◌, ◌↔◌, [], take, IfSome, IfOk, OnOk, IsTrue};
+ghost use Rattle.std.specs.Prelude.{◌≡◌, ◌≢◌, ◌↔◌, ◌≤◌, [], take, All, vec_len, IfSome, IfOk, OnOk, IsTrue};
 ghost use Rattle.std.specs.Io.BufRead.{first_piece};
 
-use answers::write_answer;
+use answers::{LONGEST, write_answer};
 use rules::Answer;
-use script::Fault;
+use script::{Fault, MOST_BYTES};
 use std::io;
 use std::io::{BufRead, BufReader, BufWriter, Chain, Empty, Read, Stdout, Write};
+
+// As many bytes as are kept of a line: one more than a line may have, so that a line that is too long is known.
+const MOST_KEPT: usize = MOST_BYTES + 1;
 
 // A source of lines with the line that was read last, and the answers that are not written yet.
 #[derive(Drop)]
@@ -22,14 +25,21 @@ pub struct Feed<S: Read> {
 fn take_line<B: BufRead>(source: &mut B, line: &mut Vec<u8>) -> io::Result<bool>
     ensures bytes { OnOk result (IfSome (B.remaining source.old) (λ left. line.new.items ≡ take 121 (first_piece 10 left))) }
     ensures end { IfOk result (λ found. IfSome (B.remaining source.old) (λ left. IsTrue found ↔ (left ≢ []))) }
+    ensures whole { OnOk result (All (λ byte. byte ≢ 10) line.new.items) }
+    ensures short { OnOk result (vec_len line.new ≤ 121) }
 {
     line.clear();
-    let count = (&mut *source).take(121).read_until(b'\n', line)?;
+    // Lent as it is, since `by_ref` does not promise that what it answers is this reader.
+    let count = (&mut *source)
+        .take(MOST_KEPT as u64)
+        .read_until(b'\n', line)?;
     if line.ends_with(b"\n") {
         line.pop();
     } else {
         source.skip_until(b'\n')?;
     }
+    // The reader is at its limit here already, but no contract says so where the bytes are not known.
+    line.truncate(MOST_KEPT);
     Ok(count > 0)
 }
 
@@ -56,7 +66,7 @@ impl<S: Read + Drop> Feed<S> {
     // Notes what a line brings.
     pub fn answer(&mut self, line: Result<Answer, Fault>) -> io::Result<()> {
         // Every answer line fits.
-        let mut text = [0u8; 33];
+        let mut text = [0u8; LONGEST];
         let Ok(end) = write_answer(&mut text, 0, line) else {
             unreachable!()
         };

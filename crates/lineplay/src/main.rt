@@ -54,8 +54,7 @@ fn play<S: Read + Drop>(rt: &HostRuntime, source: S) -> io::Result<()> {
         return Ok(());
     };
     let mut numbers = [0i32; 256];
-    // No open asks for more than there are, but its contract does not say so.
-    let count = usize::from(opening.count).min(numbers.len());
+    let count = usize::from(opening.count);
     let mut engine = Engine::open(NumberList::new(&mut numbers[..count]));
     let played = match opening.kind {
         RankKind::Grade => play_on(&mut feed, &mut engine, &mut [Grade(0); 16]),

@@ -3,4 +3,4 @@
 
 mod reader;
 
-pub use reader::{Fault, one_reading, read_line};
+pub use reader::{Fault, MOST_BYTES, one_reading, read_line};

@@ -11,7 +11,7 @@ use items::{Cutter, Kind};
 use plant::Refusal;
 
 // As many bytes as a line may have.
-const MOST_BYTES: usize = 120;
+pub const MOST_BYTES: usize = 120;
 
 // Why a line is refused, and the byte place of it, counted from 1.
 #[derive(Clone, Copy, PartialEq, Eq, Debug)]
@@ -40,7 +40,6 @@ fn walk_along(line: &[u8], shape: Shape) -> Result<Numbers, usize>
 {
     let mut cutter = Cutter { line, offset: 0 };
     let mut numbers = Numbers::none();
-    // A loop, since the cutter goes on with each part.
     for part in shape.parts() {
         let item = cutter.next_item();
         numbers = fit(item.kind, *part, numbers).ok_or(item.place)?;
