@@ -1,7 +1,7 @@
 // The record of a log: which transaction holds what, what is marked, which pointer is tied where.
 // It is kept by calls and answers alone.
-ghost use Rattle.std.specs.Prelude.{◌≡◌, false, true, [], not, ◌==◌, ◌||◌, ◌&&◌, filter, OnOk, IfOk, IfSome, IfNone, MatchBool};
-ghost use Rattle.std.specs.List.{list_any, filter_map};
+ghost use Rattle.std.specs.Prelude.{◌≡◌, false, filter, OnOk, IfOk, MatchBool};
+ghost use Rattle.std.specs.List.{filter_map};
 ghost use Rattle.std.specs.BTreeMap as tree;
 ghost use Rattle.std.specs.BTreeSet as set;
 ghost use Rattle.shift.specs.Record.{client_cmp, element_cmp, pointer_cmp, is_on, is_locked, is_marked, kind_of, losers, left_by, Begins, Grants, Leaves, Marks, Notes, Ties};
