@@ -1,37 +1,52 @@
 // The engine's limits: 32 locks to a client, 16 ranks, 16 clients, 64 pointers.
 use engine::Engine;
-use plant::{Element, NumberList, Refusal, Table};
+use plant::{Element, NumberList, Refusal};
 use ranks::{Client, Grade};
 use rules::{Answer, Call, LockKind, Pointer};
 use std::process::Abort;
 
 const CLIENT: Client = Client(3);
 
-// Makes the calls one after the other; each has to get the answer beside it. What is played on stays three parameters: a struct
-// of them would hold the engine borrowed.
-fn play<T: Table>(
-    rt: &impl Abort,
-    name: &str,
-    engine: &mut Engine<T>,
-    ranks: &mut [Grade],
-    steps: &[(Call<Grade>, Answer)],
-) {
-    for (call, answer) in steps {
-        assert_eq!(rt; engine.perform(ranks, *call), *answer, "{name}");
-    }
+// An engine over a number list, with the host's rank list of N entries.
+struct Host<'a, const N: usize> {
+    engine: Engine<NumberList<'a>>,
+    ranks: [Grade; N],
 }
 
-fn lock_32<T: Table>(rt: &impl Abort, engine: &mut Engine<T>, ranks: &mut [Grade]) {
-    play(
-        rt,
-        "begin",
-        engine,
-        ranks,
-        &[(Call::Begin(CLIENT, Grade(1)), Answer::Done)],
-    );
-    for element in 0..32 {
-        let lock = Call::Lock(CLIENT, LockKind::Read, Element(element));
-        play(rt, "32 locks", engine, ranks, &[(lock, Answer::Done)]);
+impl<'a, const N: usize> Host<'a, N> {
+    fn over(engine: Engine<NumberList<'a>>) -> Host<'a, N> {
+        Host {
+            engine,
+            ranks: [Grade(0); N],
+        }
+    }
+
+    fn into_engine(self) -> Engine<NumberList<'a>> {
+        let Host { engine, ranks: _ } = self;
+        engine
+    }
+
+    // Makes the calls one after the other; each has to get the answer beside it.
+    fn play(&mut self, rt: &impl Abort, name: &str, steps: &[(Call<Grade>, Answer)]) {
+        for (call, answer) in steps {
+            assert_eq!(rt;
+                self.engine.perform(&mut self.ranks, *call),
+                *answer,
+                "{name}"
+            );
+        }
+    }
+
+    fn lock_32(&mut self, rt: &impl Abort) {
+        self.play(
+            rt,
+            "begin",
+            &[(Call::Begin(CLIENT, Grade(1)), Answer::Done)],
+        );
+        for element in 0..32 {
+            let lock = Call::Lock(CLIENT, LockKind::Read, Element(element));
+            self.play(rt, "32 locks", &[(lock, Answer::Done)]);
+        }
     }
 }
 
@@ -51,17 +66,14 @@ const ONE_MORE: [(Call<Grade>, Answer); 3] = [
     ),
 ];
 
-fn one_more<T: Table>(rt: &impl Abort, engine: &mut Engine<T>, ranks: &mut [Grade]) {
-    lock_32(rt, engine, ranks);
-    play(rt, "one more", engine, ranks, &ONE_MORE);
-}
-
 #[test]
 fn at_most_32_locks(rt: HostRuntime) {
     let mut entries = [7; 40];
-    let mut engine = Engine::open(NumberList::new(&mut entries));
-    one_more(&rt, &mut engine, &mut [Grade(0); 16]);
-    drop(engine.close());
+    let engine = Engine::open(NumberList::new(&mut entries));
+    let mut host: Host<16> = Host::over(engine);
+    host.lock_32(&rt);
+    host.play(&rt, "one more", &ONE_MORE);
+    drop(host.into_engine().close());
 }
 
 const TOO_FEW_RANKS: [(Call<Grade>, Answer); 3] = [
@@ -95,20 +107,10 @@ const PAST_THE_LAST: [(Call<Grade>, Answer); 4] = [
 #[test]
 fn ranks_clients_and_pointers(rt: HostRuntime) {
     let mut entries = [7];
-    let mut engine = Engine::open(NumberList::new(&mut entries));
-    play(
-        &rt,
-        "15 ranks",
-        &mut engine,
-        &mut [Grade(0); 15],
-        &TOO_FEW_RANKS,
-    );
-    play(
-        &rt,
-        "past the last",
-        &mut engine,
-        &mut [Grade(0); 16],
-        &PAST_THE_LAST,
-    );
-    drop(engine.close());
+    let engine = Engine::open(NumberList::new(&mut entries));
+    let mut host: Host<15> = Host::over(engine);
+    host.play(&rt, "15 ranks", &TOO_FEW_RANKS);
+    let mut host: Host<16> = Host::over(host.into_engine());
+    host.play(&rt, "past the last", &PAST_THE_LAST);
+    drop(host.into_engine().close());
 }

@@ -1,7 +1,5 @@
 // A table of three elements that can hold only 0.
-ghost use Rattle.std.specs.Prelude.{◌≡◌, ◌≤◌, length, pos, negsuc, ◌≤ℤ◌};
 ghost use Rattle.std.proofs.Common.{rules};
-ghost use Rattle.plant.specs.Meaning.{get_answer, put_answer, put_meaning};
 ghost use Rattle.engine_tests.specs.Zeros.{zero_meaning};
 
 use plant::{Element, Refusal, Table};

@@ -16,7 +16,8 @@ use rules::{Answer, Call, Pointer};
 use std::alloc::{AllocError, Global};
 use std::collections::BTreeMap;
 
-// Where an event stands in the order: at a moment, as what happened then or behind it.
+// Where an event stands in the order: at a moment, as what happened then or behind it. A flag, since the
+// derived order of flags is by definition the one of `place_cmp`; that of an own enum would want lemmas.
 #[derive(Clone, Copy, PartialEq, Eq, PartialOrd, Ord)]
 struct Place {
     moment: usize,
