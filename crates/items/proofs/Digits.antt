@@ -1,7 +1,7 @@
 -- What digits are worth, one more at a time.
 use Rattle.std.proofs.Common.{◌≡◌, ℕ, zero, suc, ◌+◌, ◌-◌, ◌*◌, ◌^◌, ◌<◌, ◌≤◌, true, leb, List, [], ◌∷◌, ◌++◌, length, get_or, take, length-append, sym, refl, ap, ap₂, ◌∙◌, arith, pow-add}
 use native.Mathlib.Nat.{pow-le-pow_right}
-use Rattle.std.specs.List.{fold, list_all}
+use Rattle.std.specs.List.{list_all}
 use Rattle.std.proofs.lemmas.Bool.{and_parts, and_from, leb-true}
 use Rattle.std.proofs.lemmas.List.{take_all, take_more}
 use Rattle.std.proofs.Math.Seq.{get_or-append_seam}
@@ -23,10 +23,6 @@ digits_taken (b ∷ bs) (suc k) a = (a.0, digits_taken bs k a.1)
 pub worth-push : (v : ℕ) (xs : List ℕ) (b : ℕ) → worth v (xs ++ b ∷ []) ≡ 10 * worth v xs + (b - 48)
 worth-push v [] b = refl
 worth-push v (x ∷ xs) b = worth-push (10 * v + (x - 48)) xs b
-
-pub worth-fold : (v : ℕ) (xs : List ℕ) → worth v xs ≡ fold (λ w b. 10 * w + (b - 48)) v xs
-worth-fold v [] = refl
-worth-fold v (x ∷ xs) = worth-fold (10 * v + (x - 48)) xs
 
 -- with digits worth less than ten to the n in front, m in all are worth less than ten to the m
 worth_low : (v n m : ℕ) (xs : List ℕ) → AllDigits xs → v < 10 ^ n → n + length xs ≤ m → worth v xs < 10 ^ m

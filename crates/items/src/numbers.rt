@@ -12,11 +12,9 @@ fn worth_of(digits: &[u8]) -> i64
     ensures value { result ≡ pos (worth 0 digits.now) }
     ensures bound { worth 0 digits.now < 10 ^ 10 }
 {
-    let worth = digits
+    digits
         .iter()
-        .fold(0, |worth, digit| 10 * worth + u64::from(digit - b'0'));
-    // Ten digits fit with their sign, so nothing is lost.
-    worth as i64
+        .fold(0, |worth, digit| 10 * worth + i64::from(digit - b'0'))
 }
 
 // Whether a text is one to ten digits.

@@ -25,6 +25,7 @@ fn main(rt: HostRuntime) -> ExitCode {
     }
 }
 
+// Two messages, each where it comes up: a type of them, as in `plantimage`, would be longer than they are.
 fn run(rt: &HostRuntime) -> io::Result<ExitCode> {
     let words: Vec<String> = env::args(rt)?.collect(rt.alloc())?;
     match words.as_slice() {
@@ -72,7 +73,7 @@ fn play<S: Read + Drop>(rt: &HostRuntime, source: S) -> io::Result<()> {
 
 // Up to the open each line is faulty; `None` where no open comes.
 fn until_open<S: Read + Drop>(feed: &mut Feed<S>) -> io::Result<Option<Opening>> {
-    // An input may have no end, so the loop ends by a count that no input reaches.
+    // Each loop has to end and an input may not, so this one ends by a count that no input reaches.
     for _ in 0..u64::MAX {
         let Some(line) = feed.next_line()? else {
             break;
@@ -86,7 +87,7 @@ fn until_open<S: Read + Drop>(feed: &mut Feed<S>) -> io::Result<Option<Opening>>
     Ok(None)
 }
 
-// The lines behind the open.
+// The lines behind the open. One loop for both would bring a value from each line, of which this one has none.
 fn play_on<S: Read + Drop, T: Table, K: ScriptRank>(
     feed: &mut Feed<S>,
     engine: &mut Engine<T>,
