@@ -7,7 +7,8 @@ const GRADED: Option<RankKind> = Some(RankKind::Grade);
 
 const DUES: Option<RankKind> = Some(RankKind::Due);
 
-// The refusal's number and the place of the fault; `None` for a form.
+// The refusal's number and the place of the fault; `None` for a form. Refusals stand as 21, 22 and 26 below, since it is these
+// published numbers that are tested.
 fn fault(read: Result<Form, Fault>) -> Option<(u8, usize)> {
     read.err()
         .map(|fault| (fault.refusal.number(), fault.place))
