@@ -7,7 +7,8 @@ use Rattle.rules.specs.Scans.{some_below}
 use Rattle.rules.specs.State.{State, for_writing}
 use Rattle.rules.specs.Locking.{leave}
 use Rattle.rules.specs.declared.ClientState.{ClientState}
-use Rattle.inner.proofs.ScanLaws.{some_alike, some_only, some_either, none_below}
+use Rattle.rules.proofs.Scanning.{some_none}
+use Rattle.inner.proofs.ScanLaws.{some_alike, some_only, some_either}
 
 -- One more of them, or not.
 more_below : (i d : ℕ) → ltb d (i + 1) ≡ (eqb d i || ltb d i)
@@ -47,7 +48,7 @@ module _ (those : ℕ → Bool) (after : ClientState) (s : State) where
     clients = (fun_ext (λ d. ap (λ b. cond b after (s.clients d)) (sym (none d)))) j;
     locks = (fun_ext (λ d. fun_ext (λ e. ap (λ b. cond b None (s.locks d e)) (sym (none d))))) j;
     marked = s.marked;
-    second = (fun_ext (λ e. ap (λ b. cond b None (s.second e)) (sym (none_below 16 (λ d. (ltb d 0 && those d) && for_writing (s.locks d e)) (λ d l. ap (λ b. b && for_writing (s.locks d e)) (none d)))))) j;
+    second = (fun_ext (λ e. ap (λ b. cond b None (s.second e)) (sym (some_none 16 (λ d. (ltb d 0 && those d) && for_writing (s.locks d e)) (λ d l. ap (λ b. b && for_writing (s.locks d e)) (none d)))))) j;
     ties = s.ties;
   }
     where

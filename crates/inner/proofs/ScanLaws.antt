@@ -1,7 +1,8 @@
 -- Laws of looking through the numbers below a bound.
 use Rattle.std.proofs.Common.{◌≡◌, ℕ, zero, suc, ◌+◌, ◌<◌, Bool, true, false, cond, ◌&&◌, ◌||◌, eqb, Some, None, sym, refl, ap, ◌∙◌, ⊎_elim, arith}
-use Rattle.std.proofs.lemmas.Bool.{cond-true, cond-false, eqb-true, eq-eqb, or_from, or_left, or_right, cases_eq}
+use Rattle.std.proofs.lemmas.Bool.{cond-true, cond-false, eqb-true, eq-eqb, cases_eq}
 use Rattle.rules.specs.Scans.{some_below, count_below, first_or, first_below}
+use Rattle.rules.proofs.Scanning.{some_true, some_none}
 
 -- Tests that agree below n are passed alike.
 pub some_alike : (n : ℕ) (p q : ℕ → Bool) → ((k : ℕ) → k < n → p k ≡ q k) → some_below n p ≡ some_below n q
@@ -24,21 +25,6 @@ some_front (suc n) p = ap (λ b. b || p (suc n)) (some_front n p) ∙ go (p 0) (
     go true b c = refl
     go false b c = refl
 
-pub none_below : (n : ℕ) (p : ℕ → Bool) → ((k : ℕ) → k < n → p k ≡ false) → some_below n p ≡ false
-unfolding some_below
-none_below zero p h = refl
-none_below (suc n) p h = or_from (some_below n p) (p n) (none_below n p (λ k l. h k (omega arith))) (h n (omega arith))
-
-pub some_at : (n : ℕ) (p : ℕ → Bool) (k : ℕ) → k < n → p k ≡ true → some_below n p ≡ true
-unfolding some_below
-some_at zero p k l h = elim (none l) [ ]
-  where
-    none : k < 0 → ⊥
-    none l = omega arith
-some_at (suc n) p k l h =
-    ⊎_elim (λ e. or_right (some_below n p) (p n) (ap p (sym e) ∙ h))
-    (λ ne. or_left (some_below n p) (p n) (some_at n p k (omega arith) h)) (cases_eq k n)
-
 -- Only one number is looked at.
 pub some_only : (n : ℕ) (p : ℕ → Bool) (c : ℕ) → c < n → some_below n (λ k. eqb k c && p k) ≡ p c
 some_only n p c l = go (p c) refl
@@ -51,8 +37,8 @@ some_only n p c l = go (p c) refl
         here false t = refl
 
     go : (b : Bool) → p c ≡ b → some_below n (λ k. eqb k c && p k) ≡ b
-    go true e = some_at n (λ k. eqb k c && p k) c l (ap (λ b. b && p c) (eq-eqb c c refl) ∙ e)
-    go false e = none_below n (λ k. eqb k c && p k) (off e)
+    go true e = some_true n (λ k. eqb k c && p k) c l (ap (λ b. b && p c) (eq-eqb c c refl) ∙ e)
+    go false e = some_none n (λ k. eqb k c && p k) (off e)
 
 -- One of two tests is passed.
 pub some_either : (n : ℕ) (p q : ℕ → Bool) → some_below n (λ k. p k || q k) ≡ (some_below n p || some_below n q)
