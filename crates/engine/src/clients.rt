@@ -64,10 +64,11 @@ impl<T: Table> Engine<T> {
     {
         self.book.meets(client, Move::Change)?;
         self.known(element)?;
-        let lock = self.book.lock_of(client, element).ok_or(Refusal::NoLock)?;
-        if lock.kind != LockKind::Write {
-            return Err(Refusal::NoLock);
-        }
+        let lock = self
+            .book
+            .lock_of(client, element)
+            .filter(|lock| lock.kind == LockKind::Write)
+            .ok_or(Refusal::NoLock)?;
         if !self.table.allows(written) {
             return Err(Refusal::NumberOutsideLimits);
         }

@@ -10,8 +10,8 @@ use plant::{Element, Refusal, Table};
 use rules::Pointer;
 
 impl<T: Table> Engine<T> {
-    // What a pointer is tied to, if it is bound. The test of the number is made here, where the refusal is known; the book answers
-    // for any number, so that reading it cannot fail.
+    // What a pointer is tied to, if it is bound. The book answers for any number, so that reading it cannot
+    // fail; what is refused is told here.
     fn tie_of(&self, pointer: Pointer) -> Result<Option<Element>, Refusal>
         ensures { result ≡ (if nat_lt pointer.0 64 then Ok (tie_of self.now.book.inner pointer.0) else Err PointerOutOfRange) }
     {

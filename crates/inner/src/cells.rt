@@ -32,16 +32,15 @@ impl Cell {
         }
     }
 
-    // A new lock comes to the cell.
+    // A new lock comes to the cell. Kind and number stay two parameters here and in `raise`: an `Option` of the number would move the
+    // test of the kind to each caller.
     pub fn gain(&mut self, kind: LockKind, number: i64)
         requires { self.old.holders < 65535 }
         ensures { self.new ≡ gained self.old kind number }
     {
         self.marked &= self.holders > 0;
         self.holders += 1;
-        if kind == LockKind::Write {
-            self.second = Some(number);
-        }
+        self.raise(kind, number);
     }
 
     // A reader of the cell gains the write lock.

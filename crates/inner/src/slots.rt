@@ -78,7 +78,8 @@ pub fn free_place(slots: &[Option<Held>]) -> Option<usize>
     slots.iter().position(|slot| slot.is_none())
 }
 
-// The lowest-numbered element that is left for write back.
+// The lowest-numbered element that is left for write back; the least of numbers, since the library tells the least of an own type by
+// its order only.
 pub fn lowest_left(slots: &[Option<Held>]) -> Option<Element>
     ensures { option_map (λ e. e.0) result ≡ lowest_left slots.now }
 {

@@ -29,7 +29,7 @@ fn take_line<B: BufRead>(source: &mut B, line: &mut Vec<u8>) -> io::Result<bool>
     ensures short { OnOk result (vec_len line.new ≤ 121) }
 {
     line.clear();
-    // Lent as it is, since `by_ref` does not promise that what it answers is this reader.
+    // Lent as it is, since `by_ref` does not promise that what it answers is this reader; the limit is a constant that fits any type.
     let count = (&mut *source)
         .take(MOST_KEPT as u64)
         .read_until(b'\n', line)?;

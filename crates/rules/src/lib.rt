@@ -48,8 +48,8 @@ pub enum Fate {
     Dropped,
 }
 
-// One client's lock on one element. Its copy is read whether it was changed or not, and a change may come again, so that neither flag
-// is an `Option` of the other or of the copy.
+// One client's lock on one element. Its copy is read whether it was changed or not. The flags are two and not an enum of three, since
+// the rules speak of any state: a change of a lock that was taken leaves it taken.
 #[derive(Clone, Copy)]
 pub struct Lock {
     pub copy: i64,
