@@ -92,6 +92,12 @@ impl Handle for Committing {
 }
 
 impl Open {
+    pub fn client(&self) -> Client
+        ensures { result ≡ self.now.client }
+    {
+        self.client
+    }
+
     // The client begins: its rank is written into its entry of the rank list.
     pub fn begin<T: Table, K: Rank>(
         engine: &mut Engine<T>,
@@ -105,12 +111,6 @@ impl Open {
     {
         engine.begin(ranks, client, rank)?;
         Ok(Open { client })
-    }
-
-    pub fn client(&self) -> Client
-        ensures { result ≡ self.now.client }
-    {
-        self.client
     }
 
     // The client asks for a lock. One that has to wait or is lost leaves the handle too: a lost client has to clear.

@@ -2,5 +2,7 @@
 #![tactic(auto)]
 
 mod handles;
+mod run;
 
 pub use handles::{Committing, Kept, Open, Spent};
+pub use run::{Pair, Ratio, Stop, Stopped, run_trials_hold, scaling_rounds_halves_up};
