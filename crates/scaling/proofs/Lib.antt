@@ -1,1 +1,2 @@
 pub mod RunTrialsHold
+pub mod RunLaws

@@ -1,6 +1,7 @@
 -- The scaling run: the rules, played on the calls that it makes. It reads a base and changes a target, pair by
 -- pair, in one transaction.
 use Rattle.std.specs.Prelude.{◌≡◌, ℕ, zero, suc, ◌+◌, ◌*◌, ◌/◌, ◌<◌, ◌≤◌, ◌↔◌, Bool, if◌then◌else◌, ◌&&◌, List, [], ◌∷◌, length, pos, negsuc, Some, None, Ok, Err, Option, Result, nat_lt}
+use Rattle.plant.specs.Meaning.{Meaning}
 use Rattle.plant.specs.declared.refusals.Refusal.TheVariants.{NotScalable}
 use Rattle.rules.specs.State.{State}
 use Rattle.rules.specs.Calls.{Outcome, begin_call, lock_call, read_call, change_call, commit_call, write_back_call, end_call, give_up_call, clear_call}
@@ -10,6 +11,8 @@ use Rattle.rules.specs.declared.ClientState.TheVariants.{Idle, Executing, Commit
 use Rattle.rules.specs.declared.LockKind.TheVariants.{Read, Write}
 use Rattle.rules.specs.declared.Answer.{Answer}
 use Rattle.rules.specs.declared.Answer.TheVariants.{Done, Number, WroteBack, Wait as Waits, Lost as IsLost, Refused as IsRefused}
+use Rattle.engine.specs.Answering.{state_of}
+use Rattle.engine.specs.declared.opening.Engine.{Engine}
 use Rattle.scaling.specs.declared.run.Pair.{Pair}
 use Rattle.scaling.specs.declared.run.Ratio.{Ratio}
 use Rattle.scaling.specs.declared.run.Stop.{Stop}
@@ -43,6 +46,11 @@ stop_of (WroteBack e f) = None
 stop_of Waits = Some Wait
 stop_of IsLost = Some Lost
 stop_of (IsRefused r) = Some (Refused r)
+
+-- The same of a step of the code.
+abbrev pub stop_from : {V : Type 0} → Result V Stop → Option Stop
+stop_from (Ok v) = None
+stop_from (Err why) = Some why
 
 -- What a run comes to behind its begin: the state that it leaves, and how it has gone.
 pub record Ended : Type 0 where
@@ -105,7 +113,15 @@ finish c pairs s =
 abbrev pub scale_pairs : {K : Type 0} → (K → K → Bool) → List K → ℕ → Ratio → ℕ → List Pair → State → Ended
 scale_pairs above ranks c ratio behind [] s = finish c behind s
 scale_pairs above ranks c ratio behind (p ∷ ps) s =
-    scale_pair above ranks c ratio (suc behind) p s (λ s. scale_pairs above ranks c ratio (suc behind) ps s)
+    scale_pair above ranks c ratio (behind + 1) p s (λ s. scale_pairs above ranks c ratio (behind + 1) ps s)
+
+-- A run that is through, and what becomes of one whose pairs have gone so.
+abbrev pub through : State → Ended
+through s = record { state = s; result = Ok tt }
+
+abbrev pub after_pairs : Result (Unit {0}) Stopped → ℕ → ℕ → State → Ended
+after_pairs (Ok done) c pairs s = finish c pairs s
+after_pairs (Err at) c pairs s = stopped c at.pair at.why s
 
 -- What a run comes to: the state and the rank list that it leaves, and how it has gone.
 pub record Ran (K : Type 0) : Type 0 where
@@ -133,3 +149,10 @@ scaling_run above s ranks c k ratio pairs =
     if is_scalable ratio pairs
     then begun (begin_call s (length ranks) c) ranks c k (λ ranks s. scale_pairs above ranks c ratio 0 pairs s)
     else not_begun (Refused NotScalable) s ranks
+
+-- What the code has left, with how it has gone.
+abbrev pub ended_with : {T : Type 0} → (T → Meaning) → Engine T → Result (Unit {0}) Stopped → Ended
+ended_with meaning e result = record { state = state_of meaning e; result = result }
+
+abbrev pub ran_with : {T K : Type 0} → (T → Meaning) → Engine T → List K → Result (Unit {0}) Stopped → Ran K
+ran_with meaning e ranks result = ran ranks (ended_with meaning e result)

@@ -42,7 +42,7 @@ pub enum Spent {
 }
 
 // What becomes of a handle, by the outcome of the call that took it.
-trait Handle: Sized {
+pub(crate) trait Handle: Sized {
     // The handle ends here.
     fn spend(self);
 

@@ -1,5 +1,7 @@
 // What a scaling run is asked, and how it stops.
+ghost use Rattle.std.specs.Prelude.{◌≡◌};
 ghost use Rattle.scaling.specs.Run.{RoundsHalvesUp};
+ghost use Rattle.scaling.specs.declared.run.Stop.TheVariants.{Refused};
 ghost use Rattle.scaling.specs.RunTrials.{RunTrialsHold};
 
 use plant::{Element, Refusal};
@@ -24,6 +26,14 @@ pub enum Stop {
     Refused(Refusal),
     Wait,
     Lost,
+}
+
+impl From<Refusal> for Stop {
+    ghost from_gives = { λ refusal stop. stop ≡ Refused refusal };
+
+    fn from(refusal: Refusal) -> Stop {
+        Stop::Refused(refusal)
+    }
 }
 
 // Where a run stopped: the pair's number from 1, or 0 before the first pair.
