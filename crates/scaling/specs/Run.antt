@@ -103,11 +103,16 @@ abbrev pub write_backs : ℕ → ℕ → State → State
 write_backs zero c s = s
 write_backs (suc n) c s = write_backs n c (write_back_call s c).state
 
+-- A run that is through.
+abbrev pub through : State → Ended
+through s = record { state = s; result = Ok tt }
+
 -- The run's end behind its last pair. No more elements were changed than there are pairs.
 abbrev pub finish : ℕ → ℕ → State → Ended
 finish c pairs s =
     then_on c pairs (commit_call s c) (λ s.
-    then_on c pairs (end_call (write_backs pairs c s) c) (λ s. record { state = s; result = Ok tt }))
+    then_on c pairs (end_call (write_backs pairs c s) c)
+    through)
 
 -- The pairs in their order, with so many behind.
 abbrev pub scale_pairs : {K : Type 0} → (K → K → Bool) → List K → ℕ → Ratio → ℕ → List Pair → State → Ended
@@ -115,10 +120,7 @@ scale_pairs above ranks c ratio behind [] s = finish c behind s
 scale_pairs above ranks c ratio behind (p ∷ ps) s =
     scale_pair above ranks c ratio (behind + 1) p s (λ s. scale_pairs above ranks c ratio (behind + 1) ps s)
 
--- A run that is through, and what becomes of one whose pairs have gone so.
-abbrev pub through : State → Ended
-through s = record { state = s; result = Ok tt }
-
+-- What becomes of a run whose pairs have gone so.
 abbrev pub after_pairs : Result (Unit {0}) Stopped → ℕ → ℕ → State → Ended
 after_pairs (Ok done) c pairs s = finish c pairs s
 after_pairs (Err at) c pairs s = stopped c at.pair at.why s
