@@ -30,11 +30,12 @@ is_scalable ratio pairs = is_from_1_to 10_000 ratio.first && is_from_1_to 10_000
 abbrev pub scaled : Ratio → ℕ → ℕ
 scaled ratio v = (2 * v * ratio.first + ratio.second) / (2 * ratio.second)
 
--- The whole number r is less than half a second away from v × first, or half a second above it.
+-- What r has to be: 2 × v × first goes from 2 × r × second - second, included, to 2 × r × second + second, excluded.
 pub record IsRounded (ratio : Ratio) (v r : ℕ) : Type 0 where
   pub low : 2 * r * ratio.second ≤ 2 * v * ratio.first + ratio.second
   pub high : 2 * v * ratio.first < 2 * r * ratio.second + ratio.second
 
+-- The scaled number is that whole number, and no other is.
 abbrev pub RoundsHalvesUp : Type 0
 RoundsHalvesUp = (ratio : Ratio) (v r : ℕ) → 0 < ratio.second → IsRounded ratio v r ↔ (r ≡ scaled ratio v)
 
