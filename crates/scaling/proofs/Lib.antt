@@ -1,0 +1,2 @@
+pub mod RunTrialsHold
+pub mod RunLaws
