@@ -74,7 +74,8 @@ impl Book {
         self.inner.tie(pointer, tie);
     }
 
-    // A client gains a lock; the number is the table's.
+    // A client gains a lock; the number is the table's. That there is room is a fact of the book and the request together, so that
+    // neither can carry it.
     pub fn grant(&mut self, admitted: Admitted, found: i64)
         requires room { finds_room self.old.inner admitted.request ≡ true }
         ensures { Grants self.old.inner self.new.inner admitted.request found }

@@ -1,11 +1,8 @@
 // Lines that are refused, and the places of their faults.
+use super::{DUES, GRADED};
 use forms::{Form, RankKind};
 use script::{Fault, read_line};
 use std::process::Abort;
-
-const GRADED: Option<RankKind> = Some(RankKind::Grade);
-
-const DUES: Option<RankKind> = Some(RankKind::Due);
 
 // The refusal's number and the place of the fault; `None` for a form. Refusals stand as 21, 22 and 26 below, since it is these
 // published numbers that are tested.

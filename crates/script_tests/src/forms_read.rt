@@ -1,11 +1,8 @@
 // Lines that are forms.
+use super::{DUES, GRADED};
 use forms::{Form, RankKind};
 use rules::LockKind;
 use script::read_line;
-
-const GRADED: Option<RankKind> = Some(RankKind::Grade);
-
-const DUES: Option<RankKind> = Some(RankKind::Due);
 
 #[test]
 fn opens(rt: HostRuntime) {

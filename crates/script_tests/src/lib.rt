@@ -9,3 +9,13 @@ mod faults_placed;
 mod forms_read;
 #[cfg(test)]
 mod numbers_read;
+
+#[cfg(test)]
+use forms::RankKind;
+
+// What a line stands behind: an open with grades, or one with due times.
+#[cfg(test)]
+const GRADED: Option<RankKind> = Some(RankKind::Grade);
+
+#[cfg(test)]
+const DUES: Option<RankKind> = Some(RankKind::Due);
