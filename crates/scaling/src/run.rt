@@ -36,7 +36,7 @@ impl From<Refusal> for Stop {
     }
 }
 
-// Where a run stopped: the pair's number from 1, or 0 before the first pair.
+// Why a run stopped, and at which pair, counted from 1; 0 where it had come to none.
 #[derive(Clone, Copy, PartialEq, Eq, Debug)]
 pub struct Stopped {
     pub pair: usize,
