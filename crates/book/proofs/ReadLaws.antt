@@ -43,7 +43,7 @@ module _ (n : Inner) (sound : Sound n) where
         ∙ ap (λ k. ltb k 32) (sym (elements_in_use (client_of n c).slots 256 (sound.counted.once c) within))
 
     pub left_first : lowest_left (client_of n c).slots ≡ first_below 256 (λ e. is_left (lock_in (client_of n c).slots e))
-    left_first = sym (lowest_is_first 256 (client_of n c).slots (sound.counted.once c) within)
+    left_first = sym (lowest_is_first (client_of n c).slots (sound.counted.once c))
 
     -- Who is no client has no lock.
     pub room_past : nobody ≡ client_of n c → ltb (lock_total n c) 32 ≡ true

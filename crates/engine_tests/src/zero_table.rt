@@ -1,5 +1,4 @@
 // A table of three elements that can hold only 0.
-ghost use Rattle.std.proofs.Common.{rules};
 ghost use Rattle.engine_tests.specs.Zeros.{zero_meaning};
 
 use plant::{Element, Refusal, Table};
@@ -9,8 +8,6 @@ pub struct ZeroTable;
 
 impl Table for ZeroTable {
     ghost meaning = { λ _. zero_meaning };
-
-    ghost bounded = { λ _. Prim.search rules };
 
     fn count(&self) -> u16 {
         3

@@ -1,13 +1,12 @@
 -- Laws of what is left for write back.
-use Rattle.std.proofs.Common.{◌≡◌, ℕ, ◌+◌, ◌<◌, ◌≤◌, min, Bool, true, false, cond, not, ◌&&◌, ◌||◌, eqb, List, [], ◌∷◌, is_some, Some, None, Option, sym, refl, ap, ◌∙◌, arith}
+use Rattle.std.proofs.Common.{◌≡◌, ℕ, ◌+◌, ◌<◌, ◌≤◌, min, Bool, true, false, cond, not, ◌&&◌, ◌||◌, eqb, ltb, List, [], ◌∷◌, Some, None, Option, sym, refl, ap, ◌∙◌, arith}
 use Rattle.std.specs.List.{cons_option, filter_map, fold, list_any, reduce}
-use Rattle.std.proofs.lemmas.Bool.{ltb-true}
+use Rattle.std.proofs.lemmas.Bool.{eqb-true, ltb-true, ltb-false}
 use Rattle.std.proofs.lemmas.Bool.Decides.{nat_tests}
 use Rattle.rules.specs.Scans.{first_below}
 use Rattle.rules.specs.Calls.{is_left}
-use Rattle.rules.specs.declared.Lock.{Lock}
 use Rattle.inner.proofs.ScanLaws.{first_none, first_some}
-use Rattle.inner.proofs.SlotLaws.{lock_counts, once_behind, none_lock}
+use Rattle.inner.proofs.SlotLaws.{once_behind, none_lock}
 use Rattle.inner.specs.declared.slots.Held.{Held}
 use Rattle.inner.specs.Slots.{lock_in, locks_on, left_element, lowest_left}
 
@@ -15,18 +14,35 @@ use Rattle.inner.specs.Slots.{lock_in, locks_on, left_element, lowest_left}
 abbrev one_of : List ℕ → ℕ → Bool
 one_of xs e = list_any (λ x. eqb x e) xs
 
--- The elements that are left are those whose lock is, where no element has two locks.
-left_there : (slots : List (Option Held)) (e : ℕ) → ((e : ℕ) → locks_on slots e ≤ 1) → is_left (lock_in slots e) ≡ one_of (filter_map left_element slots) e
-left_there [] e once = refl
-left_there (None ∷ ss) e once = left_there ss e (once_behind None ss once)
-left_there (Some h ∷ ss) e once = go (eqb h.element.0 e) refl (h.lock.changed && not h.lock.taken) refl (once e) (left_there ss e (once_behind (Some h) ss once))
+-- Below 256 the elements that are left are those whose lock is, where no element has two locks.
+left_there : (slots : List (Option Held)) (e : ℕ) → e < 256 → ((e : ℕ) → locks_on slots e ≤ 1) → is_left (lock_in slots e) ≡ one_of (filter_map left_element slots) e
+left_there [] e small once = refl
+left_there (None ∷ ss) e small once = left_there ss e small (once_behind None ss once)
+left_there (Some h ∷ ss) e small once =
+    go (eqb h.element.0 e) refl (h.lock.changed && not h.lock.taken) refl (ltb h.element.0 256) refl (once e) (left_there ss e small (once_behind (Some h) ss once))
   where
-    go : (a : Bool) → eqb h.element.0 e ≡ a → (b : Bool) → (h.lock.changed && not h.lock.taken) ≡ b → cond a 1 0 + locks_on ss e ≤ 1 →
-        is_left (lock_in ss e) ≡ one_of (filter_map left_element ss) e → is_left (cond a (Some h.lock) (lock_in ss e)) ≡ one_of (cons_option (cond b (Some h.element.0) None) (filter_map left_element ss)) e
-    go true s true t l rest = t ∙ ap (λ c. c || one_of (filter_map left_element ss) e) (sym s)
-    go true s false t l rest = t ∙ sym (ap is_left (none_lock ss e (omega arith))) ∙ rest
-    go false s true t l rest = rest ∙ ap (λ c. c || one_of (filter_map left_element ss) e) (sym s)
-    go false s false t l rest = rest
+    go : (a : Bool) → eqb h.element.0 e ≡ a → (b : Bool) → (h.lock.changed && not h.lock.taken) ≡ b → (s : Bool) → ltb h.element.0 256 ≡ s → cond a 1 0 + locks_on ss e ≤ 1 →
+        is_left (lock_in ss e) ≡ one_of (filter_map left_element ss) e →
+        is_left (cond a (Some h.lock) (lock_in ss e)) ≡ one_of (cons_option (cond (b && s) (Some h.element.0) None) (filter_map left_element ss)) e
+    go true i true t true s l rest = t ∙ ap (λ c. c || one_of (filter_map left_element ss) e) (sym i)
+    go true i true t false s l rest = let q = eqb-true h.element.0 e i in absurd (omega (arith, q, small, ltb-false h.element.0 256 s))
+    go true i false t s u l rest = t ∙ sym (ap is_left (none_lock ss e (omega arith))) ∙ rest
+    go false i true t true s l rest = rest ∙ ap (λ c. c || one_of (filter_map left_element ss) e) (sym i)
+    go false i true t false s l rest = rest
+    go false i false t s u l rest = rest
+
+-- All of them are below 256.
+left_small : (slots : List (Option Held)) (e : ℕ) → one_of (filter_map left_element slots) e ≡ true → e < 256
+left_small [] e t = absurd (cc t)
+left_small (None ∷ ss) e t = left_small ss e t
+left_small (Some h ∷ ss) e t = go (h.lock.changed && not h.lock.taken) (ltb h.element.0 256) refl (eqb h.element.0 e) refl t (left_small ss e)
+  where
+    go : (b s : Bool) → ltb h.element.0 256 ≡ s → (a : Bool) → eqb h.element.0 e ≡ a → one_of (cons_option (cond (b && s) (Some h.element.0) None) (filter_map left_element ss)) e ≡ true →
+        (one_of (filter_map left_element ss) e ≡ true → e < 256) → e < 256
+    go true true s true i t rest = omega (arith, eqb-true h.element.0 e i, ltb-true h.element.0 256 s)
+    go true true s false i t rest = rest (ap (λ c. c || one_of (filter_map left_element ss) e) (sym i) ∙ t)
+    go true false s a i t rest = rest t
+    go false s u a i t rest = rest t
 
 -- The lowest of some numbers: no lower number is one of them, and it is.
 at_most : (m : ℕ) (xs : List ℕ) → fold min m xs ≤ m
@@ -48,19 +64,12 @@ lowest_there m (x ∷ xs) = go (fold min (min m x) xs) (one_of xs (fold min (min
     go r b h = grind (arith, nat_tests)
 
 -- So the lowest element that is left is the first that is.
-pub lowest_is_first : (n : ℕ) (slots : List (Option Held)) → ((e : ℕ) → locks_on slots e ≤ 1) → ((e : ℕ) → 0 < locks_on slots e → e < n) →
-    first_below n (λ e. is_left (lock_in slots e)) ≡ lowest_left slots
-lowest_is_first n slots once within = go (filter_map left_element slots) (λ e. left_there slots e once)
+pub lowest_is_first : (slots : List (Option Held)) → ((e : ℕ) → locks_on slots e ≤ 1) → first_below 256 (λ e. is_left (lock_in slots e)) ≡ lowest_left slots
+lowest_is_first slots once = go (filter_map left_element slots) (λ e l. left_there slots e l once) (left_small slots)
   where
-    there : (o : Option Lock) → is_left o ≡ true → is_some o ≡ true
-    there None t = t
-    there (Some l) t = refl
-
-    small : (e : ℕ) → is_left (lock_in slots e) ≡ true → e < n
-    small e t = within e (ltb-true 0 (locks_on slots e) (sym (lock_counts slots e) ∙ there (lock_in slots e) t))
-
-    go : (xs : List ℕ) → ((e : ℕ) → is_left (lock_in slots e) ≡ one_of xs e) → first_below n (λ e. is_left (lock_in slots e)) ≡ reduce min xs
-    go [] same = first_none n (λ e. is_left (lock_in slots e)) (λ k l. same k)
-    go (x ∷ xs) same =
-        let here : is_left (lock_in slots (fold min x xs)) ≡ true = same (fold min x xs) ∙ lowest_there x xs in
-        first_some n (λ e. is_left (lock_in slots e)) (fold min x xs) (small (fold min x xs) here) here (λ k l. same k ∙ none_lower x xs k l)
+    go : (xs : List ℕ) → ((e : ℕ) → e < 256 → is_left (lock_in slots e) ≡ one_of xs e) → ((e : ℕ) → one_of xs e ≡ true → e < 256) →
+        first_below 256 (λ e. is_left (lock_in slots e)) ≡ reduce min xs
+    go [] same small = first_none 256 (λ e. is_left (lock_in slots e)) (λ k l. same k l)
+    go (x ∷ xs) same small =
+        let low : fold min x xs < 256 = small (fold min x xs) (lowest_there x xs) in
+        first_some 256 (λ e. is_left (lock_in slots e)) (fold min x xs) low (same (fold min x xs) low ∙ lowest_there x xs) (λ k l. same k (omega (arith, l, low)) ∙ none_lower x xs k l)

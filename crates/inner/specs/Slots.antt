@@ -1,5 +1,5 @@
 -- One client's locks, as they lie in its slots.
-use Rattle.std.specs.Prelude.{ℕ, ◌+◌, min, Bool, false, cond, not, ◌&&◌, List, [], ◌∷◌, Some, None, Option, ◌==◌}
+use Rattle.std.specs.Prelude.{ℕ, ◌+◌, min, Bool, false, cond, not, ◌&&◌, List, [], ◌∷◌, Some, None, Option, ◌==◌, nat_lt}
 use Rattle.std.specs.List.{filter_map, reduce}
 use Rattle.rules.specs.declared.Lock.{Lock}
 use Rattle.inner.specs.declared.slots.Held.{Held}
@@ -26,10 +26,10 @@ in_use [] = 0
 in_use (None ∷ ss) = in_use ss
 in_use (Some h ∷ ss) = 1 + in_use ss
 
--- The element of a slot that holds a changed lock that has not been taken for write back.
+-- The element of a slot that holds a changed lock that has not been taken for write back. Numbers from 256 on are passed over.
 abbrev pub left_element : Option Held → Option ℕ
 left_element None = None
-left_element (Some h) = cond (h.lock.changed && not h.lock.taken) (Some h.element.0) None
+left_element (Some h) = cond ((h.lock.changed && not h.lock.taken) && nat_lt h.element.0 256) (Some h.element.0) None
 
 -- The lowest of the elements that are left for write back.
 abbrev pub lowest_left : List (Option Held) → Option ℕ

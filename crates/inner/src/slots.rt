@@ -61,7 +61,7 @@ impl ClientRecord {
 pub fn is_on(slot: &Option<Held>, element: Element) -> bool
     ensures { result ≡ on slot.now element.0 }
 {
-    slot.is_some_and(|held| held.element == element)
+    slot.as_ref().is_some_and(|held| held.element == element)
 }
 
 // The place of the first slot on an element.
@@ -86,10 +86,11 @@ pub fn lowest_left(slots: &[Option<Held>]) -> Option<Element>
     slots.iter().filter_map(left_element).min().map(Element)
 }
 
-// A slot's element, if it is left for write back.
+// A slot's element, if it is left for write back. Numbers from 256 on are those of no element.
 fn left_element(slot: &Option<Held>) -> Option<u16>
     ensures { result ≡ left_element slot.now }
 {
     let held = (*slot)?;
-    (held.lock.changed && !held.lock.taken).then_some(held.element.0)
+    let is_left = held.lock.changed && !held.lock.taken;
+    (is_left && held.element.0 < 256).then_some(held.element.0)
 }

@@ -1,7 +1,7 @@
 -- Items cut from the front of some bytes.
 use Rattle.std.proofs.Common.{◌≡◌, ◌≢◌, ℕ, suc, ◌+◌, ◌-◌, ◌<◌, ◌≤◌, min, Bool, true, false, cond, not, ◌||◌, eqb, List, [], ◌∷◌, length, get_or, take, drop, slice_get, ℤ, Some, Option, sym, refl, ap, ◌∙◌, arith}
 use Rattle.std.specs.List.{prefix_len}
-use Rattle.std.proofs.lemmas.List.{drop-drop, take_rest}
+use Rattle.std.proofs.lemmas.List.{at_drop_all, drop-drop, take_rest}
 use Rattle.std.proofs.lemmas.List.Folds.{length-prefix_len}
 use Rattle.std.proofs.lemmas.Bool.{cond-true, eqb-false, ne_eqb}
 use Rattle.items.specs.Numerals.{number_of}
@@ -22,6 +22,13 @@ by_byte : (w : Bool) (p b : ℕ) (bs : List ℕ) (t u v : Bool) → eqb b 32 ≡
     (cond v ((p, closing) ∷ items false (p + 1) bs)
     (cond w (items true (p + 1) bs) ((p, run_mark (run_of (b ∷ bs))) ∷ items true (p + 1) bs))))
 by_byte w p b bs t u v q r s = rw (← q, ← r, ← s) refl
+
+-- nothing is left behind the end
+pub spaces_end : (xs : List ℕ) (i : ℕ) → length xs ≤ i → spaces_of (drop i xs) ≡ 0
+spaces_end xs i h = at_drop_all spaces_of xs i h
+
+pub run_end : (xs : List ℕ) (i : ℕ) → length xs ≤ i → length (run_of (drop i xs)) ≡ 0
+run_end xs i h = at_drop_all (λ l. length (run_of l)) xs i h
 
 -- spaces in front are no items
 skip_by : (p b : ℕ) (bs : List ℕ) (t : Bool) → eqb b 32 ≡ t →

@@ -1,10 +1,11 @@
 -- What digits are worth, one more at a time.
-use Rattle.std.proofs.Common.{◌≡◌, ℕ, zero, suc, ◌+◌, ◌-◌, ◌*◌, ◌^◌, ◌<◌, ◌≤◌, true, leb, List, [], ◌∷◌, ◌++◌, length, get_or, take, length-append, sym, refl, ap, ap₂, ◌∙◌, arith, pow-add}
+use Rattle.std.proofs.Common.{◌≡◌, ℕ, zero, suc, ◌+◌, ◌-◌, ◌*◌, ◌^◌, ◌<◌, ◌≤◌, true, leb, List, [], ◌∷◌, ◌++◌, length, get_or, take, length-append, sym, refl, ap, ap₂, ◌∙◌, arith}
 use native.Mathlib.Nat.{pow-le-pow_right}
 use Rattle.std.specs.List.{list_all}
 use Rattle.std.proofs.lemmas.Bool.{and_parts, and_from, leb-true}
 use Rattle.std.proofs.lemmas.List.{take_all, take_more}
 use Rattle.std.proofs.Math.Seq.{get_or-append_seam}
+use Rattle.items.proofs.Scanning.{ten_more}
 use Rattle.items.specs.Numerals.{is_digit, AllDigits, worth}
 
 pub in_digits : (b : ℕ) → is_digit b ≡ true → (48 ≤ b) × (b ≤ 57)
@@ -29,7 +30,7 @@ worth_low : (v n m : ℕ) (xs : List ℕ) → AllDigits xs → v < 10 ^ n → n 
 worth_low v n m [] a h l = let p : 10 ^ n ≤ 10 ^ m = pow-le-pow_right (omega arith) (omega arith) in omega arith
 worth_low v n m (x ∷ xs) a h l =
     let d = in_digits x a.0 in
-    let more : 10 * v + (x - 48) < 10 ^ (n + 1) = omega (arith, pow-add 10 n 1) in
+    let more = ten_more n v (x - 48) h (omega arith) in
     worth_low (10 * v + (x - 48)) (n + 1) m xs a.1 more (omega arith)
 
 pub worth_below : (m : ℕ) (xs : List ℕ) → AllDigits xs → length xs ≤ m → worth 0 xs < 10 ^ m

@@ -1,3 +1,4 @@
 pub mod Cutting
 pub mod Digits
 pub mod NumberLaw
+pub mod Scanning

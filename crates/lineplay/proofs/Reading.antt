@@ -1,32 +1,14 @@
--- Lines as they are read off the bytes that are left.
-use Rattle.std.proofs.Common.{◌≡◌, ◌≢◌, ◌↔◌, IsTrue, ℕ, zero, suc, ◌+◌, ◌-◌, Bool, true, false, cond, ◌&&◌, eqb, nat_lt, length-append, List, [], ◌∷◌, ◌++◌, length, get_or, take, drop, All, None, Some, Option, IfSome, refl, sym, ap, ◌∙◌, arith, ⊎_elim}
-use Rattle.std.proofs.lemmas.Bool.{cases_eq, cases_lt, eq-eqb, ne_eqb, eqb-false, lt-ltb, ltb-true}
-use Rattle.std.proofs.lemmas.List.{drop_more, drop_all, take_all, take-take}
-use Rattle.std.proofs.lemmas.List.Elements.{All-nil, All-same, All-more}
-use lib.Pointwise.{pointwise}
-use Rattle.std.specs.List.{ends_with}
-use Rattle.std.specs.Option.{option_map}
-use Rattle.std.specs.Io.BufRead.{take_through, strip_last, ends_with_byte, first_piece}
-use Rattle.std.specs.Io.KnownBytes.{IsAtEnd}
+-- Lines as they are taken off a source, part by part.
+use Rattle.std.proofs.Common.{◌≡◌, ◌≢◌, ◌↔◌, IsTrue, ℕ, zero, suc, ◌-◌, ◌≤◌, ◌<◌, ◌+◌, min, ⊎_elim, Bool, true, false, cond, ◌&&◌, not, true≢false, eq-eqb, eqb, length-append, length-take, List, [], ◌∷◌, ◌++◌, length, get_or, get_or-take, take, All, None, Some, Option, IfSome, Result, Ok, Err, is_ok, OnOk, take_all, refl, sym, ap, ◌∙◌, arith, append_assoc, append-nil}
+use Rattle.std.proofs.lemmas.Bool.{ne_eqb, lt-ltb, cases_lt}
+use lib.Seq.{take-append-add}
+use Rattle.std.proofs.lemmas.List.Elements.{All-head, All-tail, All-append, All-from_get_or}
+use Rattle.std.proofs.BufReadLemmas.{drop_through-append}
+use Rattle.std.specs.Io.BufRead.{take_through, drop_through, strip_last, ends_with_byte, first_piece, DropsThrough}
+use Rattle.std.specs.Io.KnownBytes.{Keeps, Consumes, IsAtEnd}
 
 some_last : (x : ℕ) (xs : List ℕ) → ends_with_byte 10 (x ∷ xs) ≡ eqb (get_or (x ∷ xs) (length (x ∷ xs) - 1) 0) 10
 some_last x xs = ap (λ b. b && eqb (get_or (x ∷ xs) (length (x ∷ xs) - 1) 0) 10) (lt-ltb 0 (length (x ∷ xs)) (omega arith))
-
-and_true : (b : Bool) → (b && true) ≡ b
-and_true true = refl
-and_true false = refl
-
-either_way : (a b : ℕ) → eqb a b ≡ eqb b a
-either_way a b = ⊎_elim (λ e. eq-eqb a b e ∙ sym (eq-eqb b a (sym e))) (λ n. ne_eqb a b n ∙ sym (ne_eqb b a (λ e. n (sym e)))) (cases_eq a b)
-
--- the two ways to say that a line ends in a byte 10
-pub ends_same : (l : List ℕ) → ends_with eqb l (10 ∷ []) ≡ ends_with_byte 10 l
-ends_same [] = refl
-ends_same (x ∷ xs) =
-    let l = x ∷ xs in
-    let n = length (x ∷ xs) - 1 in
-    let one : drop n l ≡ get_or l n 0 ∷ [] = drop_more l n 0 (omega arith) ∙ ap (λ t. get_or l n 0 ∷ t) (drop_all (n + 1) l (omega arith)) in
-    ap (λ t. pointwise eqb (10 ∷ []) t) one ∙ and_true (eqb 10 (get_or l n 0)) ∙ either_way 10 (get_or l n 0) ∙ sym (some_last x xs)
 
 strip_by : (b : Bool) (x n : ℕ) (t : List ℕ) → cond b (take (suc n) (x ∷ t)) (x ∷ t) ≡ x ∷ cond b (take n t) t
 strip_by true x n t = refl
@@ -41,45 +23,83 @@ strip_more x (y ∷ t) e =
     ap (λ n. cond (eqb (get_or (x ∷ y ∷ t) n 0) 10) (take n (x ∷ y ∷ t)) (x ∷ y ∷ t)) k ∙ strip_by _ x (length (y ∷ t) - 1) (y ∷ t) ∙
     ap (λ b. x ∷ cond b (take (length (y ∷ t) - 1) (y ∷ t)) (y ∷ t)) (sym (some_last y t))
 
--- the front of a line, cut off before or after the line
-pub front_first : (n : ℕ) (xs : List ℕ) → strip_last 10 (take_through 10 (take n xs)) ≡ take n (first_piece 10 xs)
-front_first zero xs = refl
-front_first (suc n) [] = refl
-front_first (suc n) (x ∷ xs) = by (front_first n xs) (eqb x 10) refl
+-- bytes that are no byte 10 stand at the front of a line
+first_more : (xs ys : List ℕ) → All (λ b. b ≢ 10) xs → first_piece 10 (xs ++ ys) ≡ xs ++ first_piece 10 ys
+first_more [] ys none = refl
+first_more (x ∷ xs) ys none =
+    let e = ne_eqb x 10 (All-head (λ b. b ≢ 10) x xs none) in
+    ap (λ b. strip_last 10 (cond b (x ∷ []) (x ∷ take_through 10 (xs ++ ys)))) e ∙ strip_more x (take_through 10 (xs ++ ys)) e ∙
+    ap (λ l. x ∷ l) (first_more xs ys (All-tail (λ b. b ≢ 10) x xs none))
+
+-- what has room behind what is kept is all that may be kept
+room_filled : (xs ys : List ℕ) (n : ℕ) → n ≡ min (121 - length xs) (length ys) → length xs ≤ 121 → xs ++ take n ys ≡ take 121 (xs ++ ys)
+room_filled xs ys n is short = ⊎_elim part all (cases_lt (121 - length xs) (length ys))
   where
-    by : strip_last 10 (take_through 10 (take n xs)) ≡ take n (first_piece 10 xs) → (b : Bool) → eqb x 10 ≡ b →
-        strip_last 10 (cond b (x ∷ []) (x ∷ take_through 10 (take n xs))) ≡ take (suc n) (strip_last 10 (cond b (x ∷ []) (x ∷ take_through 10 xs)))
-    by r true h = let s : strip_last 10 (x ∷ []) ≡ [] = ap (λ b. cond b [] (x ∷ [])) h in s ∙ sym (ap (take (suc n)) s)
-    by r false h = strip_more x (take_through 10 (take n xs)) h ∙ ap (λ l. x ∷ l) r ∙ sym (ap (take (suc n)) (strip_more x (take_through 10 xs) h))
+    part : 121 - length xs < length ys → xs ++ take n ys ≡ take 121 (xs ++ ys)
+    part l = let full : length xs + n ≡ 121 = omega arith in sym (take-append-add xs ys n) ∙ ap (λ k. take k (xs ++ ys)) full
 
--- what is kept of a line, where the bytes that are left are known
-pub kept : (left : Option (List ℕ)) (n : ℕ) (empty read line : List ℕ) → n ≡ 121 → empty ≡ [] → IfSome (option_map (take n) left) (λ front. read ≡ empty ++ take_through 10 front) →
-    line ≡ take 121 (strip_last 10 read) → IfSome left (λ bytes. line ≡ take 121 (first_piece 10 bytes))
-kept None n empty read line limit none through cut = tt
-kept (Some bytes) n empty read line limit none through cut =
-    cut ∙ ap (λ r. take 121 (strip_last 10 r)) (through ∙ ap (λ e. e ++ take_through 10 (take n bytes)) none) ∙
-    ap (take 121) (front_first n bytes ∙ ap (λ k. take k (first_piece 10 bytes)) limit) ∙ take-take 121 121 (first_piece 10 bytes) (omega arith)
+    all : length ys ≤ 121 - length xs → xs ++ take n ys ≡ take 121 (xs ++ ys)
+    all l = ap (λ t. xs ++ t) (take_all n ys (omega arith)) ∙ sym (take_all 121 (xs ++ ys) (omega (arith, length-append xs ys)))
 
--- what was read up to a byte 10 has none once its last is off
-pub no_break : (read : List ℕ) → All (λ b. b ≢ 10) (take (length read - 1) read) → All (λ b. b ≢ 10) (strip_last 10 read)
-no_break [] h = All-nil (λ b. b ≢ 10)
-no_break (x ∷ xs) h = by (ends_with_byte 10 (x ∷ xs)) refl
+pub kept : {T E : Type 0} (r : Result T E) (old new bytes : List ℕ) (n : ℕ) → n ≡ min (121 - length old) (length bytes) → new ≡ cond (is_ok r) (old ++ take n bytes) old →
+    OnOk r (length old ≤ 121 → new ≡ take 121 (old ++ bytes))
+kept (Ok x) old new bytes n is e = λ short. e ∙ room_filled old bytes n is short
+kept (Err x) old new bytes n is e = tt
+
+pub kept_nothing : (l : List ℕ) → length l ≤ 121 → l ≡ take 121 (l ++ [])
+kept_nothing l short = sym (ap (take 121) (append-nil l) ∙ take_all 121 l short)
+
+take_front : (n : ℕ) (xs ys : List ℕ) → take n (take n xs ++ ys) ≡ take n (xs ++ ys)
+take_front zero xs ys = refl
+take_front (suc n) [] ys = refl
+take_front (suc n) (x ∷ xs) ys = ap (λ l. x ∷ l) (take_front n xs ys)
+
+-- a part is kept behind what was kept before it
+pub kept_more : (done part old new : List ℕ) → old ≡ take 121 done → (length old ≤ 121 → new ≡ take 121 (old ++ part)) → new ≡ take 121 (done ++ part)
+kept_more done part old new before now =
+    now (omega (arith, ap length before, length-take 121 done)) ∙ ap (λ l. take 121 (l ++ part)) before ∙ take_front 121 done part
+
+-- a source that shows nothing has nothing left
+pub at_end : (a : Option (List ℕ)) (n : ℕ) → n ≡ 0 → IfSome a (λ xs. n ≡ 0 → xs ≡ []) → IsAtEnd a
+at_end None n none end = tt
+at_end (Some x) n none end = end none
+
+pub none_before : (xs : List ℕ) (n : ℕ) → n ≤ length xs → ((k : ℕ) → k < n → get_or xs k 0 ≢ 10) → All (λ b. b ≢ 10) (take n xs)
+none_before xs n within before = All-from_get_or (λ b. b ≢ 10) (take n xs) 0 (λ k l e.
+    let l' : k < n = omega (arith, length-take n xs) in before k l' (sym (get_or-take n xs k 0 l') ∙ e))
+
+-- a source whose line came to its byte 10
+pub whole_line : (a b c : Option (List ℕ)) (done part line : List ℕ) → All (λ b. b ≢ 10) done → All (λ b. b ≢ 10) part → Consumes a b done → Consumes b c (part ++ 10 ∷ []) → line ≡ take 121 (done ++ part) →
+    IfSome a (λ xs. line ≡ take 121 (first_piece 10 xs)) × IfSome a (λ xs. IsTrue true ↔ (xs ≢ [])) × DropsThrough a c 10
+whole_line None b c done part line none none' p q is = (tt, tt, tt)
+whole_line (Some x) None c done part line none none' p q is = absurd p
+whole_line (Some x) (Some y) None done part line none none' p q is = absurd q
+whole_line (Some x) (Some y) (Some z) done part line none none' p q is =
+    let all = All-append (λ b. b ≢ 10) done part none none' in
+    let read : x ≡ (done ++ part) ++ 10 ∷ z = p ∙ ap (λ l. done ++ l) (q ∙ append_assoc part (10 ∷ []) z) ∙ sym (append_assoc done part (10 ∷ z)) in (
+      is ∙ ap (take 121) (sym (ap (first_piece 10) read ∙ first_more (done ++ part) (10 ∷ z) all ∙ append-nil (done ++ part))),
+      (λ _ e. absurd (omega (arith, ap length (sym read ∙ e), length-append (done ++ part) (10 ∷ z))), λ _. refl),
+      ap Some (sym (ap (drop_through 10) read ∙ drop_through-append 10 (done ++ part) (10 ∷ z) all)),
+    )
+
+pub some_kept : (none : Bool) (n : ℕ) (l : List ℕ) → n ≡ length l → none ≡ eqb n 0 → IsTrue (not none) ↔ (l ≢ [])
+some_kept none n [] long is = (λ t. absurd (true≢false (sym t ∙ ap not (is ∙ eq-eqb n 0 long))), λ some. absurd (some refl))
+some_kept none n (x ∷ xs) long is = (λ _ e. cc e, λ _. ap not (is ∙ ne_eqb n 0 (λ e. absurd (omega arith))))
+
+-- a source that ended in a line, or before it
+pub last_line : (a b c : Option (List ℕ)) (done line : List ℕ) (found : Bool) → All (λ b. b ≢ 10) done → Consumes a b done → IsAtEnd b → Keeps b c → line ≡ take 121 done →
+    (IsTrue found ↔ (line ≢ [])) → IfSome a (λ xs. line ≡ take 121 (first_piece 10 xs)) × IfSome a (λ xs. IsTrue found ↔ (xs ≢ [])) × DropsThrough a c 10
+last_line None b c done line found none p end kept is some = (tt, tt, tt)
+last_line (Some x) None c done line found none p end kept is some = absurd p
+last_line (Some x) (Some y) None done line found none p end kept is some = absurd kept
+last_line (Some x) (Some y) (Some z) done line found none p end kept is some =
+    let read : x ≡ done = p ∙ ap (λ l. done ++ l) end ∙ append-nil done in
+    let first : first_piece 10 x ≡ done = ap (first_piece 10) p ∙ first_more done y none ∙ ap (λ l. done ++ first_piece 10 l) end ∙ append-nil done in (
+      is ∙ ap (take 121) (sym first),
+      (λ t e. some.0 t (is ∙ ap (take 121) (sym read ∙ e)), λ more. some.1 (λ e. more (read ∙ empty done (sym is ∙ e)))),
+      ap Some (kept ∙ end ∙ sym (ap (drop_through 10) p ∙ drop_through-append 10 done y none ∙ ap (drop_through 10) end)),
+    )
   where
-    by : (b : Bool) → ends_with_byte 10 (x ∷ xs) ≡ b → All (λ b. b ≢ 10) (cond b (take (length (x ∷ xs) - 1) (x ∷ xs)) (x ∷ xs))
-    by true e = h
-    by false e =
-        let n = length (x ∷ xs) - 1 in
-        let last : get_or (x ∷ xs) n 0 ≢ 10 = eqb-false _ _ (sym (some_last x xs) ∙ e) in
-        let all : take (n + 1) (x ∷ xs) ≡ x ∷ xs = take_all (n + 1) (x ∷ xs) (omega arith) in
-        All-same (λ b. b ≢ 10) _ _ (sym all) (All-more (λ b. b ≢ 10) (x ∷ xs) n 0 (omega arith) h last)
-
--- a read that took something had something left
-pub started : (left : Option (List ℕ)) (n : ℕ) (empty read : List ℕ) (count : ℕ) → n ≡ 121 → IfSome (option_map (take n) left) (λ front. read ≡ empty ++ take_through 10 front) →
-    (count ≡ 0 → IsAtEnd (option_map (take n) left)) → length read ≡ length empty + count → IfSome left (λ bytes. IsTrue (nat_lt 0 count) ↔ (bytes ≢ []))
-started None n empty read count limit through stop long = tt
-started (Some []) n empty read count limit through stop long =
-    let nothing = ap length (through ∙ ap (λ k. empty ++ take_through 10 (take k [])) limit) ∙ length-append empty [] in
-    (λ t. absurd (omega (arith, ltb-true 0 count t)), λ some. absurd (some refl))
-started (Some (x ∷ xs)) n empty read count limit through stop long =
-    let taken : count ≡ 0 → x ∷ take 120 xs ≡ [] = λ e. sym (ap (λ k. take k (x ∷ xs)) limit) ∙ stop e in
-    (λ t e. cc e, λ some. ⊎_elim (lt-ltb 0 count) (λ l. let e : x ∷ take 120 xs ≡ [] = taken (omega arith) in cc e) (cases_lt 0 count))
+    empty : (l : List ℕ) → take 121 l ≡ [] → l ≡ []
+    empty [] e = refl
+    empty (h ∷ t) e = absurd (omega (arith, ap length e, length-take 121 (h ∷ t)))

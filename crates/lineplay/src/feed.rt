@@ -1,12 +1,14 @@
 // Lines from an input of any bytes, and the answers to them.
-ghost use Rattle.std.specs.Prelude.{◌≡◌, ◌≢◌, ◌↔◌, ◌≤◌, [], take, All, vec_len, IfSome, IfOk, OnOk, IsTrue};
-ghost use Rattle.std.specs.Io.BufRead.{first_piece};
+ghost use Rattle.std.specs.Prelude.{◌≡◌, ◌≢◌, ◌↔◌, ◌<◌, ◌≤◌, ℕ, List, [], ◌++◌, length, take, slice_index, All, vec_len, IfSome, IfOk, OnOk, IsTrue};
+ghost use Rattle.std.specs.Io.BufRead.{first_piece, DropsThrough};
+ghost use Rattle.lineplay.specs.Reading.{Gives};
 
 use answers::{LONGEST, write_answer};
 use rules::Answer;
 use script::{Fault, MOST_BYTES};
+use std::alloc::AllocError;
 use std::io;
-use std::io::{BufRead, BufReader, BufWriter, Chain, Empty, Read, Stdout, Write};
+use std::io::{BufRead, BufReader, BufWriter, Chain, Empty, ErrorKind, Read, Stdout, Write};
 
 // As many bytes as are kept of a line: one more than a line may have, so that a line that is too long is known.
 const MOST_KEPT: usize = MOST_BYTES + 1;
@@ -19,28 +21,87 @@ pub struct Feed<S: Read> {
     answers: BufWriter<Stdout>,
 }
 
-// Takes the source's next line and keeps it without its byte 10; of a line that is too long, one byte more than a line may
-// have. Answers whether there was a line, as `read_until` does: tried with the line as its answer, no fact of the borrow that comes
-// back could be cited.
+// Why no more of a line was taken.
+enum Stop {
+    // Its byte 10 came.
+    LineEnd,
+    // What was read is used up, or a signal broke the read off.
+    ChunkEnd,
+    // The source has ended.
+    SourceEnd,
+}
+
+// The index of the first byte 10, or the length where there is none.
+fn line_end(bytes: &[u8]) -> usize
+    ensures within { result ≤ length bytes.now }
+    ensures before { (k : ℕ) → k < result → slice_index bytes.now k ≢ 10 }
+    ensures found { result < length bytes.now → slice_index bytes.now result ≡ 10 }
+{
+    bytes
+        .iter()
+        .position(|byte| *byte == b'\n')
+        .unwrap_or(bytes.len())
+}
+
+// Adds bytes to a line; of a line that is too long, one byte more than a line may have is kept.
+fn keep(line: &mut Vec<u8>, bytes: &[u8]) -> Result<(), AllocError>
+    ensures { OnOk result (vec_len line.old ≤ 121 → line.new.items ≡ take 121 (line.old.items ++ bytes.now)) }
+{
+    let room = MOST_KEPT.saturating_sub(line.len());
+    line.extend_from_slice(&bytes[..room.min(bytes.len())])
+}
+
+// Takes what is read of the source's line, or reads on where nothing is, and answers why it took no more.
+fn take_part<B: BufRead>(source: &mut B, line: &mut Vec<u8>) -> io::Result<Stop>
+    ensures { IfOk result (λ stop. (part : List ℕ) × All (λ byte. byte ≢ 10) part
+        × (vec_len line.old ≤ 121 → line.new.items ≡ take 121 (line.old.items ++ part))
+        × Gives stop part (B.remaining source.old) (B.remaining source.new)) }
+{
+    let read = match source.fill_buf() {
+        Ok(read) => read,
+        Err(error) => {
+            return if error.kind() == ErrorKind::Interrupted {
+                Ok(Stop::ChunkEnd)
+            } else {
+                Err(error)
+            };
+        }
+    };
+    if read.is_empty() {
+        return Ok(Stop::SourceEnd);
+    }
+    let end = line_end(read);
+    keep(line, &read[..end])?;
+    if end < read.len() {
+        // The byte 10 is used up too.
+        source.consume(end + 1);
+        Ok(Stop::LineEnd)
+    } else {
+        source.consume(end);
+        Ok(Stop::ChunkEnd)
+    }
+}
+
+// Takes the source's next line, all of it with its byte 10, and keeps it without that; of a line that is too long, one byte more
+// than a line may have. Answers whether there was a line: tried with the line as its answer, no fact of the borrow that comes back
+// could be cited.
 fn take_line<B: BufRead>(source: &mut B, line: &mut Vec<u8>) -> io::Result<bool>
     ensures bytes { OnOk result (IfSome (B.remaining source.old) (λ left. line.new.items ≡ take 121 (first_piece 10 left))) }
     ensures end { IfOk result (λ found. IfSome (B.remaining source.old) (λ left. IsTrue found ↔ (left ≢ []))) }
     ensures whole { OnOk result (All (λ byte. byte ≢ 10) line.new.items) }
     ensures short { OnOk result (vec_len line.new ≤ 121) }
+    ensures rest { OnOk result (DropsThrough (B.remaining source.old) (B.remaining source.new) 10) }
 {
     line.clear();
-    // Lent as it is, since `by_ref` does not promise that what it answers is this reader; the limit is a constant that fits any type.
-    let count = (&mut *source)
-        .take(MOST_KEPT as u64)
-        .read_until(b'\n', line)?;
-    if line.ends_with(b"\n") {
-        line.pop();
-    } else {
-        source.skip_until(b'\n')?;
+    // Each loop has to end and a line may not, so this one ends by a count that no line reaches.
+    for _ in 0..u64::MAX {
+        match take_part(source, line)? {
+            Stop::LineEnd => return Ok(true),
+            Stop::ChunkEnd => {}
+            Stop::SourceEnd => return Ok(!line.is_empty()),
+        }
     }
-    // The reader is at its limit here already, but no contract says so where the bytes are not known.
-    line.truncate(MOST_KEPT);
-    Ok(count > 0)
+    Err(ErrorKind::TimedOut.into())
 }
 
 impl<S: Read + Drop> Feed<S> {
@@ -71,5 +132,10 @@ impl<S: Read + Drop> Feed<S> {
             unreachable!()
         };
         self.answers.write_all(&text[..end])
+    }
+
+    // Lets go of answers that could not be written: where it is dropped, the writer would try once more.
+    pub fn close(self) {
+        let _ = self.answers.into_parts();
     }
 }

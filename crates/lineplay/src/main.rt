@@ -48,23 +48,45 @@ fn play_file(rt: &HostRuntime, file: &str) -> io::Result<()> {
     play(rt, fs::open(rt, file)?)
 }
 
-// One table of zeros, one engine and one rank list for the whole script.
+// However the script goes, nothing is written behind a write that failed.
 fn play<S: Read + Drop>(rt: &HostRuntime, source: S) -> io::Result<()> {
     let mut feed = Feed::new(rt, source)?;
-    let Some(opening) = until_open(&mut feed)? else {
+    let played = play_script(&mut feed);
+    feed.close();
+    played
+}
+
+// One table of zeros and one engine for the whole script.
+fn play_script<S: Read + Drop>(feed: &mut Feed<S>) -> io::Result<()> {
+    let Some(opening) = until_open(feed)? else {
         return Ok(());
     };
     let mut numbers = [0i32; 256];
     let count = usize::from(opening.count);
-    let mut engine = Engine::open(NumberList::new(&mut numbers[..count]));
-    let played = match opening.kind {
-        RankKind::Grade => play_on(&mut feed, &mut engine, &mut [Grade(0); 16]),
+    play_opened(feed, opening.kind, open_engine(&mut numbers[..count]))
+}
+
+// Apart and not inlined, as `play_opened` is, since an engine is large: so fewer copies of it lie on the stack at a time.
+#[inline(never)]
+fn open_engine(numbers: &mut [i32]) -> Engine<NumberList<'_>> {
+    Engine::open(NumberList::new(numbers))
+}
+
+// The lines behind the open, with one rank list of its kind.
+#[inline(never)]
+fn play_opened<S: Read + Drop, T: Table + Drop>(
+    feed: &mut Feed<S>,
+    kind: RankKind,
+    mut engine: Engine<T>,
+) -> io::Result<()> {
+    let played = match kind {
+        RankKind::Grade => play_on(feed, &mut engine, &mut [Grade(0); 16]),
         RankKind::Due => {
             let due = Due {
                 minute: 0,
                 weight: 0,
             };
-            play_on(&mut feed, &mut engine, &mut [due; 16])
+            play_on(feed, &mut engine, &mut [due; 16])
         }
     };
     drop(engine.close());

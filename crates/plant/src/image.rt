@@ -1,7 +1,7 @@
 // A table on the caller's bytes: two for the count, then two for each element, the higher byte first.
-ghost use Rattle.std.specs.Prelude.{IsTrue, drop, ◌≡◌, length, pos, negsuc, IfOk};
+ghost use Rattle.std.specs.Prelude.{IsTrue, drop, ◌≡◌, ◌≤◌, length, pos, negsuc, ◌≤ℤ◌, IfOk};
 ghost use Rattle.std.specs.Simd.{first_chunks};
-ghost use Rattle.plant.specs.ByteTable.{image_is_bounded, image_check, image_count, cell_number, image_meaning, bytes_after_put};
+ghost use Rattle.plant.specs.ByteTable.{image_check, image_count, cell_number, image_meaning, bytes_after_put};
 ghost use Rattle.plant.specs.Meaning.{within, get_answer, put_answer, put_meaning};
 
 use super::refusals::Refusal;
@@ -49,23 +49,26 @@ impl<'a> Image<'a> {
 impl<'a> Table for Image<'a> {
     ghost meaning = { λ table. image_meaning table.bytes.now };
 
-    ghost bounded = { λ table. image_is_bounded table.bytes.now };
-
     fn count(&self) -> u16
         ensures value { result ≡ length (image_meaning self.now.bytes.now).numbers }
+        ensures bound { result ≤ 256 }
         ensures cells { result ≡ image_count self.now.bytes.now }
     {
         Image::check(self.bytes).unwrap_or(0)
     }
 
     fn lowest(&self) -> i64
-        ensures { result ≡ negsuc 32_767 }
+        ensures value { result ≡ (image_meaning self.now.bytes.now).lowest }
+        ensures bound { negsuc 999_999_999_999 ≤ℤ result }
+        ensures limit { result ≡ negsuc 32_767 }
     {
         i64::from(i16::MIN)
     }
 
     fn highest(&self) -> i64
-        ensures { result ≡ pos 32_767 }
+        ensures value { result ≡ (image_meaning self.now.bytes.now).highest }
+        ensures bound { ((image_meaning self.now.bytes.now).lowest ≤ℤ result) × (result ≤ℤ pos 1_000_000_000_000) }
+        ensures limit { result ≡ pos 32_767 }
     {
         i64::from(i16::MAX)
     }

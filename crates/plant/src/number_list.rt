@@ -1,6 +1,6 @@
 // A table on the caller's list of 32-bit numbers.
-ghost use Rattle.std.specs.Prelude.{IsTrue, ◌≡◌, min, length, take, pos, negsuc, IfOk, slice_index_or};
-ghost use Rattle.plant.specs.EntryTable.{list_is_bounded, list_meaning, entries_after_put};
+ghost use Rattle.std.specs.Prelude.{IsTrue, ◌≡◌, ◌≤◌, min, length, take, pos, negsuc, ◌≤ℤ◌, IfOk, slice_index_or};
+ghost use Rattle.plant.specs.EntryTable.{list_meaning, entries_after_put};
 ghost use Rattle.plant.specs.Meaning.{within, get_answer, put_answer, put_meaning};
 
 use super::refusals::Refusal;
@@ -33,10 +33,9 @@ impl<'a> NumberList<'a> {
 impl<'a> Table for NumberList<'a> {
     ghost meaning = { λ table. list_meaning table.entries.now };
 
-    ghost bounded = { λ table. list_is_bounded table.entries.now };
-
     fn count(&self) -> u16
         ensures value { result ≡ length (list_meaning self.now.entries.now).numbers }
+        ensures bound { result ≤ 256 }
         ensures entries { result ≡ min 256 (length self.now.entries.now) }
     {
         // At most 256, so nothing is lost; `try_from` would add an outcome that cannot come.
@@ -44,13 +43,17 @@ impl<'a> Table for NumberList<'a> {
     }
 
     fn lowest(&self) -> i64
-        ensures { result ≡ negsuc 2_147_483_647 }
+        ensures value { result ≡ (list_meaning self.now.entries.now).lowest }
+        ensures bound { negsuc 999_999_999_999 ≤ℤ result }
+        ensures limit { result ≡ negsuc 2_147_483_647 }
     {
         i64::from(i32::MIN)
     }
 
     fn highest(&self) -> i64
-        ensures { result ≡ pos 2_147_483_647 }
+        ensures value { result ≡ (list_meaning self.now.entries.now).highest }
+        ensures bound { ((list_meaning self.now.entries.now).lowest ≤ℤ result) × (result ≤ℤ pos 1_000_000_000_000) }
+        ensures limit { result ≡ pos 2_147_483_647 }
     {
         i64::from(i32::MAX)
     }

@@ -1,6 +1,6 @@
 // What a table is.
-ghost use Rattle.std.specs.Prelude.{◌≡◌, length, IsTrue, IfOk};
-ghost use Rattle.plant.specs.Meaning.{Meaning, IsBounded, has, within, get_answer, put_answer, put_meaning};
+ghost use Rattle.std.specs.Prelude.{◌≡◌, ◌<◌, ◌≤◌, length, pos, negsuc, ◌≤ℤ◌, IsTrue, IfOk};
+ghost use Rattle.plant.specs.Meaning.{Meaning, has, within, get_answer, put_answer, put_meaning};
 
 use super::refusals::Refusal;
 
@@ -8,20 +8,23 @@ use super::refusals::Refusal;
 #[derive(Clone, Copy, PartialEq, Eq, PartialOrd, Ord, Debug)]
 pub struct Element(pub u16);
 
+// The bounds of count, limits and elements are promised by who answers them, and are no law: a law is of any whole
+// numbers, and only a read shows that a number has the bits of its type.
 pub trait Table {
     ghost meaning: { Self → Meaning };
 
     fn count(&self) -> u16
-        ensures { result ≡ length (meaning self.now).numbers };
+        ensures value { result ≡ length (meaning self.now).numbers }
+        ensures bound { result ≤ 256 };
 
     fn lowest(&self) -> i64
-        ensures { result ≡ (meaning self.now).lowest };
+        ensures value { result ≡ (meaning self.now).lowest }
+        ensures bound { negsuc 999_999_999_999 ≤ℤ result };
 
     fn highest(&self) -> i64
-        ensures { result ≡ (meaning self.now).highest };
+        ensures value { result ≡ (meaning self.now).highest }
+        ensures bound { ((meaning self.now).lowest ≤ℤ result) × (result ≤ℤ pos 1_000_000_000_000) };
 
-    // That elements are within the limits is no law: a law is of any whole numbers, and only a read
-    // shows that a number has the bits of its type.
     fn get(&self, element: Element) -> Result<i64, Refusal>
         ensures value { result ≡ get_answer (meaning self.now) element.0 }
         ensures inside { IfOk result (λ v. IsTrue (within (meaning self.now) v)) };
@@ -31,13 +34,11 @@ pub trait Table {
         ensures value { result ≡ put_answer (meaning self.old) element.0 number }
         ensures after { meaning self.new ≡ put_meaning (meaning self.old) element.0 number };
 
-    // A law: at most 256 elements, and limits in order and within 10^12.
-    ghost bounded: { (table : Self) → IsBounded (meaning table) };
-
     // Whether there is an element of this number. An impl's own methods cannot call it, since its
     // proof stands on theirs.
     final fn has(&self, element: Element) -> bool
-        ensures { result ≡ has (meaning self.now) element.0 }
+        ensures value { result ≡ has (meaning self.now) element.0 }
+        ensures small { IsTrue result → element.0 < 256 }
     {
         element.0 < self.count()
     }

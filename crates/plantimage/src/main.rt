@@ -45,6 +45,8 @@ fn run(rt: &HostRuntime) -> io::Result<ExitCode> {
     let words: Vec<String> = env::args(rt)?.collect(rt.alloc())?;
     match obey(rt, words.as_slice()) {
         Ok(()) => Ok(ExitCode::SUCCESS),
+        // What cannot be printed is said once, by `main`.
+        Err(Failure::Printing(error)) => Err(error),
         Err(failure) => {
             eprintln!(rt; "plantimage: {failure}")?;
             Ok(ExitCode::FAILURE)

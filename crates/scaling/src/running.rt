@@ -75,6 +75,8 @@ impl Open {
         self.take(engine, ranks, LockKind::Write, pair.target)?;
         let base = self.read(engine, pair.base)?;
         let base = u64::try_from(base).map_err(|_negative| Stop::Refused(Refusal::NotScalable))?;
+        // No table's highest number is beyond 10^12, so that what no i64 holds lies outside the limits too.
+        let _highest = engine.highest();
         self.change(engine, pair.target, ratio.scaled(base))?;
         Ok(())
     }

@@ -7,7 +7,7 @@ ghost use Rattle.script.specs.Reading.{noted_at, line_items, Reads, OneReading};
 ghost use Rattle.script.specs.Steps.{fits, walk_of, search_of, reading_of};
 
 use forms::{Form, Numbers, Part, RankKind, SHAPES, Shape};
-use items::{Cutter, Kind};
+use items::{Cutter, Item, Kind};
 use plant::Refusal;
 
 // As many bytes as a line may have.
@@ -34,6 +34,13 @@ fn fit(kind: Kind<'_>, part: Part, numbers: Numbers) -> Option<Numbers>
     }
 }
 
+// The place of an item, apart from the walk so that it has a promise of its own.
+fn place_of(item: Item<'_>) -> usize
+    ensures { result ≡ item.entry.place }
+{
+    item.place
+}
+
 // The numbers of a line that goes along a whole shape, or the place of the first item that does not fit.
 fn walk_along(line: &[u8], shape: Shape) -> Result<Numbers, usize>
     ensures { result ≡ walk_of blank (parts_of shape) (line_items line.now) }
@@ -42,7 +49,7 @@ fn walk_along(line: &[u8], shape: Shape) -> Result<Numbers, usize>
     let mut numbers = Numbers::none();
     for part in shape.parts() {
         let item = cutter.next_item();
-        numbers = fit(item.kind, *part, numbers).ok_or(item.place)?;
+        numbers = fit(item.kind, *part, numbers).ok_or(place_of(item))?;
     }
     Ok(numbers)
 }

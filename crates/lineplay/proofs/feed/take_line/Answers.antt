@@ -1,44 +1,50 @@
-use Rattle.std.proofs.Common.{◌≡◌, ◌≢◌, ◌-◌, IfSome, All, ◌++◌, [], ◌∷◌, length, eqb, take, drop, sym, ap, subst, ◌∙◌, rules}
-use Rattle.std.proofs.lemmas.Bool.{cond-true, cond-false}
-use Rattle.std.proofs.lemmas.List.Elements.{All-same, All-take}
-use Rattle.std.specs.Io.{StopsAt}
-use Rattle.std.specs.List.{ends_with}
-use Rattle.std.specs.Option.{option_map}
-use Rattle.std.specs.Io.BufRead.{strip_last, take_through, ends_with_byte}
-use Rattle.std.specs.Io.KnownBytes.{IsAtEnd}
-use Rattle.lineplay.proofs.Reading.{kept, started, no_break, ends_same}
-use Rattle.lineplay.proofs.feed.take_line.Given.{Over}
-use Rattle.lineplay.proofs.feed.take_line.Goals.{then-ends_with, else-ends_with+in_ok-skip_until}
+use Rattle.std.proofs.Common.{◌≢◌, ◌++◌, length, take, ap, subst, ◌∙◌, arith, length-take, append-nil}
+use Rattle.std.proofs.lemmas.List.Elements.{All-same, All-take, All-append}
+use Rattle.std.proofs.KnownBytes.{Consumes-trans}
+use Rattle.lineplay.specs.Reading.{Gives}
+use Rattle.lineplay.proofs.Reading.{kept_more, whole_line, some_kept, last_line}
 use Rattle.lineplay.proofs.feed.take_line.Goals as goal
 
--- what stands in the line once its byte 10 is off
-stripped : (g : Over) (c : goal.After-truncate g) → c.if-ends_with.line.items ≡ strip_last 10 c.read_until.new.buf.items
-stripped g c =
-    let read = c.read_until.new.buf.items in
-    let ends : ends_with_byte 10 read ≡ c.ends_with.result = sym (ends_same read) ∙ ap (λ l. ends_with eqb l (10 ∷ [])) (sym c.deref.ensures.value) ∙ sym c.ends_with.ensures.value in
-    elim c.if-ends_with.branch [
-      | then-ends_with w ↦
-          let popped : w.pop.new.self.items ≡ take (length read - 1) read = search rules in
-          ap (λ v. v.items) w.line-is ∙ popped ∙ sym (cond-true _ _ _ (ends ∙ w.if-ends_with.true))
-      | else-ends_with+in_ok-skip_until w ↦ ap (λ v. v.items) w.line-is ∙ sym (cond-false _ _ _ (ends ∙ w.if-ends_with.false))
-    ]
+pub loop-preserved : goal.loop-preserved
+loop-preserved g c =
+    let (done, none, is, read) = c.loop.invariant in
+    let (part, none', more, gives) = c.in_ok-take_part.ensures in
+    let long = c.loop.line.ok.0 in (
+      done ++ part,
+      All-append (λ b. b ≢ 10) done part none none',
+      kept_more done part _ _ is (λ short. more (omega arith)),
+      Consumes-trans _ _ _ done part read (subst (λ s. Gives s part (g.B.Read.remaining c.loop.source) (g.B.Read.remaining c.take_part.new.source)) c.in-ChunkEnd.is gives),
+    )
 
-pub returns-clause-bytes : goal.returns-clause-bytes
-returns-clause-bytes g c =
-    let read = c.read_until.new.buf.items in
-    let through = subst (λ s. IfSome (option_map (take c.take.result.limit) (g.B.Read.remaining s)) (λ front. read ≡ c.clear.new.self.items ++ take_through 10 front)) (ap (λ r. r.now) c.take.ensures.inner) c.in_ok-count.ensures.bytes in
-    kept (g.B.Read.remaining c.args.source.now) c.take.result.limit c.clear.new.self.items read c.truncate.new.self.items c.take.ensures.limit c.clear.ensures.items through (c.truncate.ensures.items ∙ ap (take 121) (stripped g c))
+pub returns-in-LineEnd : goal.returns-in-LineEnd
+returns-in-LineEnd g c =
+    let (done, none, is, read) = c.loop.invariant in
+    let (part, none', more, gives) = c.in_ok-take_part.ensures in
+    let long = c.loop.line.ok.0 in
+    let kept = kept_more done part _ _ is (λ short. more (omega arith)) in
+    let ended = subst (λ s. Gives s part (g.B.Read.remaining c.loop.source) (g.B.Read.remaining c.take_part.new.source)) c.in-LineEnd.is gives in
+    let line = whole_line (g.B.Read.remaining c.args.source.now) _ _ done part _ none none' read ended kept in
+    record {
+      bytes = line.0;
+      end = line.1;
+      whole = All-same (λ b. b ≢ 10) _ _ kept (All-take (λ b. b ≢ 10) 121 (done ++ part) (All-append (λ b. b ≢ 10) done part none none'));
+      short = omega (arith, c.take_part.new.line.ok.0, ap length kept, length-take 121 (done ++ part));
+      rest = line.2;
+    }
 
-pub returns-clause-end : goal.returns-clause-end
-returns-clause-end g c =
-    let read = c.read_until.new.buf.items in
-    let source = ap (λ r. r.now) c.take.ensures.inner in
-    let through = subst (λ s. IfSome (option_map (take c.take.result.limit) (g.B.Read.remaining s)) (λ front. read ≡ c.clear.new.self.items ++ take_through 10 front)) source c.in_ok-count.ensures.bytes in
-    let stop = subst (λ s. c.in_ok-count.count ≡ 0 → IsAtEnd (option_map (take c.take.result.limit) (g.B.Read.remaining s))) source c.in_ok-count.ensures.end in
-    started (g.B.Read.remaining c.args.source.now) c.take.result.limit c.clear.new.self.items read c.in_ok-count.count c.take.ensures.limit through stop (search rules)
-
-pub returns-clause-whole : goal.returns-clause-whole
-returns-clause-whole g c =
-    let read = c.read_until.new.buf.items in
-    let stops : All (λ b. b ≢ 10) (take (length read - 1) read) = subst (λ e. StopsAt (drop (length e) read) 10) c.clear.ensures.items c.in_ok-count.ensures.stops in
-    All-same (λ b. b ≢ 10) _ _ (c.truncate.ensures.items ∙ ap (take 121) (stripped g c)) (All-take (λ b. b ≢ 10) 121 _ (no_break read stops))
+pub returns-in-SourceEnd : goal.returns-in-SourceEnd
+returns-in-SourceEnd g c =
+    let (done, none, is, read) = c.loop.invariant in
+    let (part, none', more, gives) = c.in_ok-take_part.ensures in
+    let ended = subst (λ s. Gives s part (g.B.Read.remaining c.loop.source) (g.B.Read.remaining c.take_part.new.source)) c.in-SourceEnd.is gives in
+    let long = c.loop.line.ok.0 in
+    let kept = kept_more done part _ _ is (λ short. more (omega arith)) ∙ ap (λ l. take 121 (done ++ l)) ended.0 ∙ ap (take 121) (append-nil done) in
+    let line = last_line (g.B.Read.remaining c.args.source.now) _ _ done _ _ none read ended.1 ended.2 kept
+    (some_kept c.is_empty.result _ c.take_part.new.line.items c.take_part.new.line.ok.0 c.is_empty.ensures) in
+    record {
+      bytes = line.0;
+      end = line.1;
+      whole = All-same (λ b. b ≢ 10) _ _ kept (All-take (λ b. b ≢ 10) 121 done none);
+      short = omega (arith, c.take_part.new.line.ok.0, ap length kept, length-take 121 done);
+      rest = line.2;
+    }
